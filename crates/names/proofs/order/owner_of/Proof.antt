@@ -1,0 +1,25 @@
+-- The two ways are those of `ownerOf`; a seat of at most 8 leaves room for 100 more. Assumes nothing.
+use mathlib.Core.Path.{sym, _∙_}
+use Rattle.names.specs.Steps.Order.{owner-is}
+use borrow.Author.Needs.{needs}
+use Rattle.names.proofs.order.owner_of.Statement.{statement}
+use Rattle.names.proofs.order.owner_of.Tie as tie
+
+is-separate-requires : tie.Need-is-separate-requires
+is-separate-requires c κs = search needs
+
+add-result : tie.Need-add-result
+add-result c = search needs
+
+returns : tie.Need-returns
+returns c =
+    let a = c .before .before .args in
+    sym (owner-is (a .seat) (a .tenant) (a .separate) ∙ rw (sym (c .before .is-separate .ensures) ∙ c .if1 .taken))
+
+returns-2 : tie.Need-returns-2
+returns-2 c =
+    let a = c .before .before .args in
+    sym (owner-is (a .seat) (a .tenant) (a .separate) ∙ rw (sym (c .before .is-separate .ensures) ∙ c .if1 .left))
+
+pub owner-of-spec : {M : Type 1} → statement M
+owner-of-spec = tie.close (tie.spec is-separate-requires add-result returns returns-2)
