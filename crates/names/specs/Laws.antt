@@ -1,10 +1,11 @@
 -- What follows from the definitions, for this crate and every layer above. To be cited first:
 --   Fold     folded-folded, length-folded, isFolded-folded, folded-is
 --   Name     name-folded, name-length, name-after
+--   Bytes    name-bytes
 --   Under    under-refl, under-trans, under-folded, under-length
 --   Rfc      under-is-rfc6265
 --   Book     sound-parts, book-size
---   Order    letting-legal, owner-range, owner-apart
+--   Order    letting-legal, separate-legal, separate-unlet, owner-range, owner-apart
 --   Answer   suffix-number, suffix-empty, suffix-place, suffix-six, suffix-determined
 --   Suffix   suffix-facts, suffix-folded
 --   Walk     name-walk: the code's walk over a name is the rule by labels
@@ -14,6 +15,7 @@ pub mod Lists
 pub mod Fold
 pub mod Labels
 pub mod Name
+pub mod Bytes
 pub mod Label
 pub mod Walk
 pub mod Under

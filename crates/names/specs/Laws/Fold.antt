@@ -47,6 +47,10 @@ lower-lt x h =
 
 -- ---- names
 
+pub folded-nil : folded [] ≡ []
+unfolding folded
+folded-nil = refl
+
 pub folded-cons : (x : ℕ) (s : List ℕ) → folded (x ∷ s) ≡ lower x ∷ folded s
 unfolding folded
 folded-cons x s = refl

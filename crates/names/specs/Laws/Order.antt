@@ -1,12 +1,12 @@
 -- Laws of orders: what a sound list of them says of a seat is legal, and a separate seat shares its owner with no other.
 -- Assumes nothing.
-use mathlib.Core.Path.{_≡_, refl, subst}
+use mathlib.Core.Path.{_≡_, refl, ap, subst, _∙_}
 use mathlib.Core.Bool.{Bool, true, false, _&&_, cond}
 use mathlib.Core.List.{List, [], _∷_}
-use Prim.Native.Nat.{ℕ, _+_, _≤_}
+use Prim.Native.Nat.{ℕ, _+_, _≤_, _<_}
 use native.Mathlib.Omega.{arith}
 use lib.Dec.{eqb}
-use borrow.Author.Tests.{eqb-true}
+use borrow.Author.Tests.{eqb-true, leb-true}
 use Rattle.names.specs.Base.{within, every, rising}
 use Rattle.names.specs.Rule.Order.{legalSeparate, isSeparate, isOrder, seatBefore, soundOrders, lettingOf, tenantOf}
 use Rattle.names.specs.Rule.Order.{separateOf, ownerOf}
@@ -128,6 +128,30 @@ tenant-range b s e = go (letting-legal b s e)
     go : {l : Letting} → Legal s l → tenantOf l ≤ 99
     go notLet = omega (arith, tenant-none)
     go (isLet {t = t} {x = x} r q o) = omega (arith, tenant-let t x, q .high)
+
+-- the byte that says separate: 0 is legal, and what is legal is a byte
+pub legal-none : legalSeparate 0 ≡ true
+unfolding legalSeparate
+legal-none = refl
+
+pub legal-lt : (x : ℕ) → legalSeparate x ≡ true → x < 256
+unfolding legalSeparate
+legal-lt x e = let a = leb-true x 1 e in omega arith
+
+pub separate-legal : (b : List ℕ) (s : ℕ) → soundBook b ≡ true → legalSeparate (separateOf (lettingOf s (orders b))) ≡ true
+separate-legal b s e = go (letting-legal b s e)
+  where
+    go : {l : Letting} → Legal s l → legalSeparate (separateOf l) ≡ true
+    go notLet = ap legalSeparate separate-none ∙ legal-none
+    go (isLet {t = t} {x = x} r q o) = ap legalSeparate (separate-let t x) ∙ o
+
+-- a seat with no tenant is not let, and so not separate
+pub separate-unlet : (b : List ℕ) (s : ℕ) → soundBook b ≡ true → tenantOf (lettingOf s (orders b)) ≡ 0 → separateOf (lettingOf s (orders b)) ≡ 0
+separate-unlet b s e = go (letting-legal b s e)
+  where
+    go : {l : Letting} → Legal s l → tenantOf l ≡ 0 → separateOf l ≡ 0
+    go notLet z = separate-none
+    go (isLet {t = t} {x = x} r q o) z = absurd (omega (arith, tenant-let t x, q .low))
 
 -- in a sound book no other seat has the owner of a separate one
 pub owner-apart : (b : List ℕ) (s s' : ℕ) → soundBook b ≡ true → isSeparate (separateOf (lettingOf s (orders b))) ≡ true

@@ -8,7 +8,7 @@ use lib.ListN.{getD}
 use lib.Dec.{leb, ltb, eqb}
 use borrow.Author.Tests.{lt-ltb}
 use Rattle.names.specs.Base.{within, every, rising}
-use Rattle.names.specs.Rule.Order.{legalSeparate, isSeparate, isOrder, seatBefore, soundOrders, lettingOf, ownerOf}
+use Rattle.names.specs.Rule.Order.{legalSeparate, isSeparate, isOrder, seatBefore, soundOrders, lettingOf}
 use Rattle.names.specs.Rule.Book.{orderSize, orderAt, ordersFrom}
 use Rattle.names.specs.Laws.Order.{order-parts}
 use Rattle.names.specs.Laws.Lists.{rising-step, rising-bottom}
@@ -26,10 +26,6 @@ separate-is x = refl
 pub order-is : (o : Order) → isOrder o ≡ within 1 8 (o .seat) && within 1 99 (o .tenant) && legalSeparate (o .separate)
 unfolding isOrder
 order-is o = refl
-
-pub owner-is : (seat tenant separate : ℕ) → ownerOf seat tenant separate ≡ cond (isSeparate separate) (100 + seat) tenant
-unfolding ownerOf
-owner-is seat tenant separate = refl
 
 pub order-at-is : (b : List ℕ) (at : ℕ)
     → orderAt b at ≡ record { seat = getD b at 0; tenant = getD b (at + 1) 0; separate = getD b (at + 2) 0 }
