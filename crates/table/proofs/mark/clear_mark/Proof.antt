@@ -1,0 +1,45 @@
+-- A mark that is waited for is in the number, so it can be taken away. Assumes nothing.
+use Rattle.table.specs.Laws.Asked.{live-tab}
+use Rattle.table.specs.Steps.Mark.{waits-most, waits-low, unmarked-of}
+use native.Mathlib.Omega.{arith}
+use borrow.Author.Needs.{needs}
+use Rattle.table.proofs.mark.clear_mark.Statement.{statement}
+use Rattle.table.proofs.mark.clear_mark.Tie as tie
+
+waiting-requires : tie.Need-waiting-requires
+waiting-requires c κs = live-tab (c .before .before .pre .0)
+
+weight-of-requires : tie.Need-weight-of-requires
+weight-of-requires c κs = search needs
+
+sub-left : tie.Need-sub-left
+sub-left c =
+    let start = c .before .before .before .before in
+    omega (arith, waits-low _ _ _ _ (start .pre .1), c .before .waiting .ensures, c .weight-of .ensures)
+
+set-waiting-requires : tie.Need-set-waiting-requires
+set-waiting-requires c κs =
+    let start = c .before .before .before .before .before in
+    (live-tab (start .pre .0), omega (arith, waits-most (start .pre .0), c .before .before .waiting .ensures, c .before .weight-of .ensures))
+
+same-length : tie.Need-same-length
+same-length c = search needs
+
+returns : tie.Need-returns
+returns c =
+    let c4 = c .before .before .before .before in
+    let c5 = c4 .before in
+    let c8 = c5 .before .before .before in
+    unmarked-of (c8 .args .m) (c5 .waiting .ensures .0) (c4 .weight-of .ensures .0)
+    (c .before .before .set-waiting .ensures)
+
+pub clear-mark-spec : {M : Type 1} → statement M
+clear-mark-spec =
+    tie.close
+    (tie.spec
+    waiting-requires
+    weight-of-requires
+    sub-left
+    set-waiting-requires
+    same-length
+    returns)

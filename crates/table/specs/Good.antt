@@ -1,0 +1,35 @@
+-- How the code goes through a table: seat by seat, then process row by process row, each looked at once. `sound-good` in Laws.Good
+-- proves that this is the document's `sound`. Assumes nothing.
+use Prim.Native.Nat.{ℕ, _-_}
+use mathlib.Core.Bool.{Bool, not, _&&_, _||_, cond}
+use lib.Dec.{leb, eqb}
+use Rattle.table.specs.Base.{each}
+use Rattle.table.specs.Rule.View.{View, tabs}
+use Rattle.table.specs.Rule.Clause.{seatInRange, opensInRange, seatSpare, rowSpare, seatNotLet, filled, mapAgrees}
+use Rattle.table.specs.Rule.Clause.{selectedLive, sameSerial, hangs, counted, sameNumber, samePair, lastFits, tabFormed}
+use Rattle.table.specs.Rule.Clause.{rowFormed}
+use Rattle.table.specs.Rule.Word.{used}
+
+-- a tab row beside the slots below it
+unfoldable pub tabGood : View → ℕ → ℕ → Bool
+tabGood v s k = tabFormed v s k && hangs v s k && each (k - 1) (λ i. not (sameSerial v s i k))
+
+unfoldable pub seatGood : ℕ → View → ℕ → Bool
+seatGood most v s =
+    seatInRange v s && opensInRange most v s && seatSpare v s && seatNotLet v s && mapAgrees v s && selectedLive v s
+    && each 10 (λ k. tabGood v s k)
+
+-- tabs are counted for live rows alone: where every live tab hangs on a live row, none points at a free one
+unfoldable pub tabsTrue : View → ℕ → Bool
+tabsTrue v p = cond (used v p) (leb 1 (v (tabs p)) && counted v p) (eqb (v (tabs p)) 0)
+
+-- two process rows that cannot both be
+unfoldable pub clash : View → ℕ → ℕ → Bool
+clash v q p = sameNumber v q p || samePair v q p
+
+-- a process row beside the rows below it
+unfoldable pub rowGood : View → ℕ → Bool
+rowGood v p = rowSpare v p && rowFormed v p && filled v p && tabsTrue v p && each (p - 1) (λ q. not (clash v q p))
+
+unfoldable pub good : ℕ → View → Bool
+good most v = each 8 (λ s. seatGood most v s) && lastFits v && each 80 (λ p. rowGood v p)

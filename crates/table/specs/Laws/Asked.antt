@@ -1,0 +1,50 @@
+-- What the readers and updates ask for, from soundness and a test: a seat, a tab row and a process row of a sound table, a serial
+-- left to a seat. Assumes nothing.
+use mathlib.Core.Path.{_≡_}
+use mathlib.Core.Bool.{true, false}
+use mathlib.Core.List.{List}
+use mathlib.Core.Logic.{_≢_}
+use Prim.Native.Nat.{ℕ, _≤_, _<_}
+use native.Mathlib.Omega.{arith}
+use lib.Dec.{eqb}
+use borrow.Author.Tests.{eqb-false}
+use Rattle.names.specs.Laws.Bools.{Range}
+use Rattle.table.specs.Rule.View.{opens}
+use Rattle.table.specs.Rule.Layout.{mostOpens, view}
+use Rattle.table.specs.Rule.Held.{SeatOf, TabOf, RowOf}
+use Rattle.table.specs.Rule.Word.{used}
+use Rattle.table.specs.Rule.Sound.{soundTable}
+use Rattle.table.specs.Rule.Asked.{HasSlot, Openable, Closable, TabLive}
+use Rattle.table.specs.Laws.There.{live-there, used-there}
+use Rattle.table.specs.Laws.Table.{table-facts}
+
+pub sound-seat : {t : List ℕ} {s : ℕ} → soundTable t ≡ true → Range 1 8 s → SeatOf t s
+sound-seat {t} e r = record { long = table-facts t e .long; seat = r }
+
+pub sound-row : {t : List ℕ} {p : ℕ} → soundTable t ≡ true → used (view t) p ≡ true → RowOf t p
+sound-row {t} {p} e u = record { long = table-facts t e .long; row = used-there t p u }
+
+pub live-tab : {t : List ℕ} {s k : ℕ} → TabLive t s k → TabOf t s k
+live-tab {t} {s} {k} w =
+    let r = live-there t s k (w .there) in
+    record { long = table-facts t (w .sound) .long; seat = r .0; slot = r .1 }
+
+pub open-seat : {t : List ℕ} {s : ℕ} {suffix : List ℕ} → Openable t s suffix → SeatOf t s
+open-seat w = sound-seat (w .sound) (w .seat)
+
+pub open-slot : {t : List ℕ} {s : ℕ} {suffix : List ℕ} → Openable t s suffix → HasSlot t s
+open-slot w = record { sound = w .sound; seat = w .seat; slot = w .slot }
+
+pub close-seat : {t : List ℕ} {s : ℕ} → Closable t s → SeatOf t s
+close-seat w = sound-seat (w .sound) (w .seat)
+
+-- opens that are not the largest are below it
+pub opens-left : (t : List ℕ) (s : ℕ) → soundTable t ≡ true → Range 1 8 s → eqb (view t (opens s)) mostOpens ≡ false
+    → view t (opens s) < mostOpens
+opens-left t s e r n =
+    let fit = table-facts t e .shows .opens-fit s r in
+    let most = eqb-false (view t (opens s)) mostOpens n in
+    below (view t (opens s)) mostOpens fit most
+  where
+    below : (a b : ℕ) → a ≤ b → a ≢ b → a < b
+    below a b h g = omega arith
