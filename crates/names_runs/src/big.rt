@@ -1,7 +1,7 @@
 // Books about the longest length. A book begins as all `a`: a listed name is its length and its number in three
 // letters, and the rest of it is there already. Each book starts with listed names of 62 bytes.
 use crate::ask;
-use crate::put::put;
+use runs::put;
 ghost use mathlib.Core.Path.{_≡_};
 ghost use Prim.Native.Nat.{_+_, _%_};
 

@@ -1,6 +1,6 @@
 // Listed names in a book: which bytes are one, and their order.
 use crate::ask;
-use crate::put::put;
+use runs::put;
 
 fn short() {
     ask::book(

@@ -6,7 +6,6 @@ mod listed_cases;
 mod marked;
 mod name_cases;
 mod order_cases;
-mod put;
 mod say;
 mod seat_cases;
 mod suffix_cases;

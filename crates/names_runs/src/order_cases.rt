@@ -1,6 +1,6 @@
 // Orders in a book: seats, tenants, the byte that says separate, and how many there are.
 use crate::ask;
-use crate::put::put;
+use runs::put;
 
 // A book of one order.
 fn one(label: &[u8], seat: u8, tenant: u8, separate: u8) {

@@ -1,6 +1,6 @@
 // The suffix question: the listed name that decides, the 64 bytes, the case, the refusals, and the number lent.
 use crate::ask;
-use crate::put::put;
+use runs::put;
 
 fn hosts() {
     let book = b"\x05co.uk\x03com\x02uk\x00\x00\x00\x00\x00\x00\x00\x03";

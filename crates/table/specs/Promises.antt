@@ -125,7 +125,7 @@ pub unmark-grows : (t : List ℕ) (s k : ℕ) (m : Mark) → TabLive t s k → G
 unmark-grows t s k m w =
     let x = unmarked-quiet t s k w m in grown t (unmarked t s k m) s (le-of-eq (sym (x .opens=))) (x .rest .opens=)
 
--- and so what a later open of that seat gives is another: however many updates lie between, opens grew with each.
+-- and so what a later open of that seat gives is another, however many updates lie between. (A new start begins with opens 0.)
 pub serial-once : (t u : List ℕ) (s : ℕ) (suffix : List ℕ) → Openable t s suffix → Grows (opened t s suffix) u
     → given t s < given u s
 serial-once t u s suffix w g =

@@ -1,4 +1,4 @@
-// Bytes put into a buffer that is lent.
+// What the programs share that run a layer's boundaries.
 ghost use mathlib.Core.Path.{_≡_};
 ghost use lib.Seq.{sets};
 

@@ -4,10 +4,10 @@ use mathlib.Core.Path.{_≡_, refl, sym, ap, _∙_}
 use Prim.Native.Nat.{ℕ, _≤_, _+_, _-_}
 use lib.ListN.{length, drop, length-set}
 use lib.Seq.{sets}
-use Rattle.names_runs.proofs.Stores.{sets-out, sets-step, sets-end}
+use Rattle.runs.proofs.Stores.{sets-out, sets-step, sets-end}
 use native.Mathlib.Omega.{arith}
-use Rattle.names_runs.proofs.put.put.Statement.{statement}
-use Rattle.names_runs.proofs.put.put.Tie as tie
+use Rattle.runs.proofs.put.Statement.{statement}
+use Rattle.runs.proofs.put.Tie as tie
 
 abbrev Inv-loop : tie.InvT-loop
 Inv-loop to₀ at bytes i₀ to i = (at ≤ length to₀) × ((length to ≡ length to₀) × (sets to₀ at bytes ≡ sets to (at + i) (drop i bytes)))

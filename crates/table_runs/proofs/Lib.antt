@@ -1,0 +1,3 @@
+-- Laws that several proofs cite.
+pub mod Answer
+pub mod Digits
