@@ -1,14 +1,18 @@
 -- How the code goes through a table: seat by seat, then process row by process row, each looked at once. `sound-good` in Laws.Good
 -- proves that this is the document's `sound`. Assumes nothing.
 use Prim.Native.Nat.{ℕ, _-_}
-use mathlib.Core.Bool.{Bool, not, _&&_, _||_, cond}
+use mathlib.Core.Path.{_≡_}
+use mathlib.Core.Bool.{Bool, true, not, _&&_, _||_, cond}
+use mathlib.Core.List.{List}
 use lib.Dec.{leb, eqb}
-use Rattle.table.specs.Base.{each}
+use lib.ListN.{length, getD}
+use Rattle.names.specs.Laws.Bools.{Range}
+use Rattle.table.specs.Base.{each, sum, count}
 use Rattle.table.specs.Rule.View.{View, tabs}
 use Rattle.table.specs.Rule.Clause.{seatInRange, opensInRange, seatSpare, rowSpare, seatNotLet, filled, mapAgrees}
 use Rattle.table.specs.Rule.Clause.{selectedLive, sameSerial, hangs, counted, sameNumber, samePair, lastFits, tabFormed}
-use Rattle.table.specs.Rule.Clause.{rowFormed}
-use Rattle.table.specs.Rule.Word.{used}
+use Rattle.table.specs.Rule.Clause.{rowFormed, goodName}
+use Rattle.table.specs.Rule.Word.{used, points}
 
 -- a tab row beside the slots below it
 unfoldable pub tabGood : View → ℕ → ℕ → Bool
@@ -30,6 +34,17 @@ clash v q p = sameNumber v q p || samePair v q p
 -- a process row beside the rows below it
 unfoldable pub rowGood : View → ℕ → Bool
 rowGood v p = rowSpare v p && rowFormed v p && filled v p && tabsTrue v p && each (p - 1) (λ q. not (clash v q p))
+
+-- a live process row whose name is good and stands before zeros
+pub record Named (v : View) (p : ℕ) : Type 0 where
+  pub live : used v p ≡ true
+  pub name : goodName v p ≡ true
+  pub fill : filled v p ≡ true
+
+-- the live tabs of seats 1 to n, counted at the numbers of their process rows
+pub record Counts (v : View) (n : ℕ) (c : List ℕ) : Type 0 where
+  pub long : length c ≡ 81
+  pub rows : (p : ℕ) → Range 1 80 p → getD c p 0 ≡ sum n (λ s. count 10 (λ k. points v p s k))
 
 unfoldable pub good : ℕ → View → Bool
 good most v = each 8 (λ s. seatGood most v s) && lastFits v && each 80 (λ p. rowGood v p)

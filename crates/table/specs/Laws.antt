@@ -13,8 +13,9 @@
 --   Room     room: a free slot leaves a free process row; what fits
 -- Each, Sum, Lowest, Bits and Series are laws of the words in Base. Num, View, Layout and Form are the bytes; with Can and
 -- Tab they are the laws that know the layout. Clause, Facts and Holds prove that the test of soundness and the record
--- agree, GoodParts and Good that the code's way is the document's. Seats, Rows and Links prove once that a change of one tab row
--- and one process row keeps a table sound; Still, Open, Make, Renew, Close, Leave, End and Quiet are the changes.
+-- agree, GoodParts and Good that the code's way is the document's; Letters tells a name by the 64 letters of its room. Seats, Rows
+-- and Links prove once that a change of one tab row and one process row keeps a table sound; Still, Open, Make, Renew, Close,
+-- Leave, End and Quiet are the changes.
 pub mod Each
 pub mod Sum
 pub mod Lowest
@@ -26,6 +27,7 @@ pub mod Layout
 pub mod Form
 pub mod Sound
 pub mod Clause
+pub mod Letters
 pub mod Facts
 pub mod Holds
 pub mod GoodParts

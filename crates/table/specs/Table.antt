@@ -1,5 +1,6 @@
 -- What leaves this crate: the definitions of Rule under their names, shut. The layers above cite these and reason by Laws;
 -- nothing outside this crate's specs/ can open one. Assumes nothing.
+pub use Rattle.table.specs.Rule.Num.{num, put}
 pub use Rattle.table.specs.Rule.View.{View, Field, tenant, separate, selected, seatZero, opens, slots, serial, row}
 pub use Rattle.table.specs.Rule.View.{waiting, number, owner, tabs, size, rowZero, letter, seatsAt, rowsAt, last}
 pub use Rattle.table.specs.Rule.Layout.{tableBytes, mostOpens, mostNumber, view, write, tabId, seatOfId, serialOfId}

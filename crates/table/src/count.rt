@@ -1,65 +1,53 @@
-// The tabs of a process row, counted.
+// The tabs of each process row, counted in one pass over the tab rows.
 use crate::layout::SEATS;
 use crate::layout::SLOTS;
 use crate::layout::row;
 use crate::layout::tabs;
-use crate::row::is_used;
-use crate::seat::bit;
 use crate::tab::is_live;
 ghost use mathlib.Core.Path.{_≡_};
-ghost use Prim.Native.Nat.{_≤_};
+ghost use mathlib.Core.Bool.{true};
+ghost use Prim.Native.Nat.{_-_};
 ghost use lib.ListN.{length};
-ghost use Rattle.table.specs.Base.{count};
-ghost use Rattle.table.specs.Table.{view, pointing, tableBytes, SeatOf, TabOf, RowOf};
-ghost use Rattle.table.specs.Inner.{points, tabsTrue};
+ghost use Rattle.table.specs.Base.{each};
+ghost use Rattle.table.specs.Table.{view, used, pointing, tableBytes, mostOpens, SeatOf, RowOf};
+ghost use Rattle.table.specs.Inner.{seatGood, tabsTrue, Counts};
 
-fn is_pointing(t: &[u8], p: usize, s: usize, k: usize) -> bool
-    requires { ⌜ TabOf (now t) s k ⌝ }
-    ensures { λ r. ⌜ r ≡ points (view (now (t .entry))) p s k ⌝ }
+// The tabs of seats 1 to s - 1 are counted; those of seat s are next. Counts stand at the numbers of their rows.
+fn count_seat(t: &[u8], s: usize, counts: &mut [u8; 81])
+    requires { ⌜ (SeatOf (now t) s) × (seatGood mostOpens (view (now t)) s ≡ true) × (Counts (view (now t)) (s - 1) (now counts)) ⌝ }
+    ensures { λ _. ⌜ Counts (view (now (t .entry))) s (now (counts .exit)) ⌝ }
 {
-    if row(t, s, k) != p {
-        return false;
-    }
-    is_live(t, s, k)
-}
-
-fn pointing_of(t: &[u8], p: usize, s: usize) -> usize
-    requires { ⌜ SeatOf (now t) s ⌝ }
-    ensures { λ r. ⌜ (r ≡ count 10 (λ k. points (view (now (t .entry))) p s k)) × (r ≤ 10) ⌝ }
-{
-    let mut n: usize = 0;
     let mut k: usize = 0;
     while k < SLOTS {
         k += 1;
-        n += bit(is_pointing(t, p, s, k));
+        if is_live(t, s, k) {
+            let p = row(t, s, k);
+            counts[p] += 1;
+        }
     }
-    n
 }
 
-fn pointing(t: &[u8], p: usize) -> usize
-    requires { ⌜ length (now t) ≡ tableBytes ⌝ }
-    ensures { λ r. ⌜ r ≡ pointing (view (now (t .entry))) p ⌝ }
+pub(crate) fn count_tabs(t: &[u8]) -> [u8; 81]
+    requires { ⌜ (length (now t) ≡ tableBytes) × (each 8 (λ s. seatGood mostOpens (view (now t)) s) ≡ true) ⌝ }
+    ensures { λ r. ⌜ Counts (view (now (t .entry))) 8 r ⌝ }
 {
-    let mut n: usize = 0;
+    let mut counts = [0u8; 81];
     let mut s: usize = 0;
     while s < SEATS {
         s += 1;
-        n += pointing_of(t, p, s);
+        count_seat(t, s, &mut counts);
     }
-    n
+    counts
 }
 
-// The tab count of a live row is true and not 0; a free row has none.
-pub(crate) fn are_tabs_true(t: &[u8], p: usize) -> bool
-    requires { ⌜ RowOf (now t) p ⌝ }
+// The tab count of a live row is true and not 0. `n` is how many tabs point at it.
+pub(crate) fn are_tabs_true(t: &[u8], p: usize, n: usize) -> bool
+    requires { ⌜ (RowOf (now t) p) × (used (view (now t)) p ≡ true) × (n ≡ pointing (view (now t)) p) ⌝ }
     ensures { λ r. ⌜ r ≡ tabsTrue (view (now (t .entry))) p ⌝ }
 {
-    let n = tabs(t, p);
-    if !is_used(t, p) {
-        return n == 0;
-    }
-    if n == 0 {
+    let m = tabs(t, p);
+    if m == 0 {
         return false;
     }
-    n == pointing(t, p)
+    m == n
 }

@@ -1,5 +1,5 @@
-// What the rules look up: the tab of an id, the process of a number, the process of an owner and a suffix, a free process row.
-// A process row is given by its number from 1, and 0 says that there is none.
+// What the rules look up: whether a seat is let, the tab of an id, the process of a number, the process of an owner and a
+// suffix, a free process row. A process row is given by its number from 1, and 0 says that there is none.
 use crate::layout::ROWS;
 use crate::layout::SEATS;
 use crate::layout::SLOTS;
@@ -9,14 +9,31 @@ use crate::layout::owner;
 use crate::layout::seat_of_id;
 use crate::layout::serial;
 use crate::layout::serial_of_id;
+use crate::layout::tenant;
 use crate::row::is_used;
 use names::fold::is_same;
 ghost use mathlib.Core.Path.{_≡_};
+ghost use mathlib.Core.Bool.{not};
 ghost use Prim.Native.Nat.{_≤_};
 ghost use lib.ListN.{length};
-ghost use Rattle.table.specs.Table.{view, tableBytes, SeatOf, TabOf, RowOf};
+ghost use lib.Dec.{eqb};
+ghost use Rattle.table.specs.Table.{view, tenant, tableBytes, SeatOf, TabOf, RowOf};
 ghost use Rattle.table.specs.Table.{tabOf, processOf, processWith, freeProcess};
 ghost use Rattle.table.specs.Inner.{slotOf, tabHas, rowHas, rowWith};
+
+// A seat that is let, for any number.
+pub fn is_let(t: &[u8], s: usize) -> bool
+    requires { ⌜ length (now t) ≡ tableBytes ⌝ }
+    ensures { λ r. ⌜ r ≡ not (eqb (view (now (t .entry)) (tenant s)) 0) ⌝ }
+{
+    if s == 0 {
+        return false;
+    }
+    if SEATS < s {
+        return false;
+    }
+    tenant(t, s) != 0
+}
 
 // Where a tab is live.
 pub enum Place {

@@ -5,8 +5,9 @@ pub mod find;
 pub mod fresh;
 mod hang;
 pub mod layout;
+mod letters;
 pub mod mark;
-mod num;
+pub mod num;
 pub mod open;
 pub mod row;
 pub mod seat;
@@ -14,6 +15,7 @@ pub mod slots;
 mod spell;
 pub mod tab;
 
+use crate::count::count_tabs;
 use crate::layout::are_offsets_given;
 use crate::layout::is_long;
 use crate::layout::last;
@@ -23,7 +25,7 @@ use crate::seat::sum_of_opens;
 ghost use mathlib.Core.Path.{_≡_};
 ghost use Rattle.table.specs.Table.{soundTable};
 
-// Sound, for any bytes. Seats come first, so that rows need not ask whether a live tab hangs on a live row.
+// Sound, for any bytes. Seats come first: where they are good, a live tab hangs on a live row, and tabs are counted at their rows.
 pub fn sound(t: &[u8]) -> bool
     ensures { λ r. ⌜ r ≡ soundTable (now (t .entry)) ⌝ }
 {
@@ -39,5 +41,6 @@ pub fn sound(t: &[u8]) -> bool
     if sum_of_opens(t) < last(t) {
         return false;
     }
-    are_rows_good(t)
+    let counts = count_tabs(t);
+    are_rows_good(t, &counts)
 }

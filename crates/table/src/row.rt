@@ -3,23 +3,26 @@ use crate::count::are_tabs_true;
 use crate::layout::ROOM;
 use crate::layout::ROWS;
 use crate::layout::last;
-use crate::layout::letter;
 use crate::layout::name;
 use crate::layout::number;
 use crate::layout::owner;
 use crate::layout::row_zero;
 use crate::layout::size;
-use names::fold::is_folded;
-use names::fold::is_same;
-use names::name::has_dot;
+use crate::layout::tabs;
+use crate::letters::are_dotless;
+use crate::letters::are_same;
+use crate::letters::are_small;
+use crate::letters::is_filled;
+use names::byte::wide;
 use names::name::is_name;
 ghost use mathlib.Core.Path.{_≡_};
-ghost use mathlib.Core.Bool.{not};
+ghost use mathlib.Core.Bool.{true, not, _&&_};
 ghost use Prim.Native.Nat.{_-_};
 ghost use lib.ListN.{length};
+ghost use lib.Dec.{eqb};
 ghost use Rattle.table.specs.Base.{each};
-ghost use Rattle.table.specs.Table.{view, used, rowFormed, tableBytes, RowOf};
-ghost use Rattle.table.specs.Inner.{filled, goodName, clash, rowGood};
+ghost use Rattle.table.specs.Table.{view, owner, tabs, used, pointing, tableBytes, RowOf};
+ghost use Rattle.table.specs.Inner.{emptyRow, filled, goodName, clash, rowGood, Named, Counts};
 
 pub fn is_used(t: &[u8], p: usize) -> bool
     requires { ⌜ RowOf (now t) p ⌝ }
@@ -30,16 +33,28 @@ pub fn is_used(t: &[u8], p: usize) -> bool
 
 // ---- in itself
 
-fn is_name_good(t: &[u8], p: usize) -> bool
+// A free row has no owner, no name, no tabs and no letter.
+fn is_empty_row(t: &[u8], p: usize) -> bool
     requires { ⌜ RowOf (now t) p ⌝ }
+    ensures { λ r. ⌜ r ≡ emptyRow (view (now (t .entry))) p && eqb (view (now (t .entry)) (tabs p)) 0 && filled (view (now (t .entry))) p ⌝ }
+{
+    if owner(t, p) != 0 {
+        return false;
+    }
+    if size(t, p) != 0 {
+        return false;
+    }
+    if tabs(t, p) != 0 {
+        return false;
+    }
+    is_filled(t, p)
+}
+
+// The letters after the name are zero, so that all of the room tells whether the name has a capital or a dot.
+fn is_name_good(t: &[u8], p: usize) -> bool
+    requires { ⌜ (RowOf (now t) p) × (filled (view (now t)) p ≡ true) ⌝ }
     ensures { λ r. ⌜ r ≡ goodName (view (now (t .entry))) p ⌝ }
 {
-    if !is_name(name(t, p)) {
-        return false;
-    }
-    if !is_folded(name(t, p)) {
-        return false;
-    }
     let n = size(t, p);
     if n < 3 {
         return false;
@@ -47,110 +62,85 @@ fn is_name_good(t: &[u8], p: usize) -> bool
     if ROOM < n {
         return false;
     }
-    has_dot(name(t, p))
-}
-
-pub(crate) fn is_row_formed(t: &[u8], p: usize) -> bool
-    requires { ⌜ RowOf (now t) p ⌝ }
-    ensures { λ r. ⌜ r ≡ rowFormed (view (now (t .entry))) p ⌝ }
-{
-    let n = number(t, p);
-    if n == 0 {
-        if owner(t, p) != 0 {
-            return false;
-        }
-        return size(t, p) == 0;
-    }
-    if last(t) < n {
+    if !is_name(name(t, p)) {
         return false;
     }
-    is_name_good(t, p)
-}
-
-// The bytes of the room after the name are zero.
-pub(crate) fn is_filled(t: &[u8], p: usize) -> bool
-    requires { ⌜ RowOf (now t) p ⌝ }
-    ensures { λ r. ⌜ r ≡ filled (view (now (t .entry))) p ⌝ }
-{
-    let mut j: usize = size(t, p);
-    while j < ROOM {
-        j += 1;
-        if letter(t, p, j) != 0 {
-            return false;
-        }
+    if !are_small(t, p) {
+        return false;
     }
-    true
+    !are_dotless(t, p)
 }
 
 // ---- beside the rows below
 
-// Two rows with one number, or with one owner and one name. Names are compared where they lie, and only if the owners are equal.
-pub(crate) fn is_clash(t: &[u8], q: usize, p: usize) -> bool
-    requires { ⌜ (RowOf (now t) q) × (RowOf (now t) p) ⌝ }
+// Two rows with one number, or with one owner and one name. `o` is the owner of row p.
+fn is_clash(t: &[u8], q: usize, p: usize, o: u8) -> bool
+    requires { ⌜ (RowOf (now t) q) × (RowOf (now t) p) × (rowGood (view (now t)) q ≡ true) × (Named (view (now t)) p) × (o ≡ view (now t) (owner p)) ⌝ }
     ensures { λ r. ⌜ r ≡ clash (view (now (t .entry))) q p ⌝ }
 {
-    let n = number(t, p);
-    if n == 0 {
-        return false;
-    }
-    let m = number(t, q);
-    if m == n {
+    if number(t, q) == number(t, p) {
         return true;
     }
-    if m == 0 {
+    if owner(t, q) != o {
         return false;
     }
-    if owner(t, q) != owner(t, p) {
+    if size(t, q) != size(t, p) {
         return false;
     }
-    is_same(name(t, q), name(t, p))
+    are_same(t, q, p)
 }
 
-// No row below clashes with this one. A free row is passed by at once.
+// No row below clashes with this one. The rows below are good, so that equal names are equal letters.
 fn is_row_new(t: &[u8], p: usize) -> bool
-    requires { ⌜ RowOf (now t) p ⌝ }
+    requires { ⌜ (RowOf (now t) p) × (Named (view (now t)) p) × (each (p - 1) (λ q. rowGood (view (now t)) q) ≡ true) ⌝ }
     ensures { λ r. ⌜ r ≡ each (p - 1) (λ q. not (clash (view (now (t .entry))) q p)) ⌝ }
 {
-    if !is_used(t, p) {
-        return true;
-    }
-    let mut q: usize = 0;
-    while q < p - 1 {
-        q += 1;
-        if is_clash(t, q, p) {
+    let o = owner(t, p);
+    let mut q: usize = p - 1;
+    while 0 < q {
+        if is_clash(t, q, p, o) {
             return false;
         }
+        q -= 1;
     }
     true
 }
 
-fn is_row_good(t: &[u8], p: usize) -> bool
-    requires { ⌜ RowOf (now t) p ⌝ }
+// The rows below are good, and n tabs point at this one.
+fn is_row_good(t: &[u8], p: usize, n: usize) -> bool
+    requires { ⌜ (RowOf (now t) p) × (each (p - 1) (λ q. rowGood (view (now t)) q) ≡ true) × (n ≡ pointing (view (now t)) p) ⌝ }
     ensures { λ r. ⌜ r ≡ rowGood (view (now (t .entry))) p ⌝ }
 {
     if row_zero(t, p) != 0 {
         return false;
     }
-    if !is_row_formed(t, p) {
+    let found = number(t, p);
+    if found == 0 {
+        return is_empty_row(t, p);
+    }
+    if last(t) < found {
         return false;
     }
     if !is_filled(t, p) {
         return false;
     }
-    if !are_tabs_true(t, p) {
+    if !is_name_good(t, p) {
+        return false;
+    }
+    if !are_tabs_true(t, p, n) {
         return false;
     }
     is_row_new(t, p)
 }
 
-pub(crate) fn are_rows_good(t: &[u8]) -> bool
-    requires { ⌜ length (now t) ≡ tableBytes ⌝ }
+pub(crate) fn are_rows_good(t: &[u8], counts: &[u8; 81]) -> bool
+    requires { ⌜ (length (now t) ≡ tableBytes) × (Counts (view (now t)) 8 (now counts)) ⌝ }
     ensures { λ r. ⌜ r ≡ each 80 (λ p. rowGood (view (now (t .entry))) p) ⌝ }
 {
     let mut p: usize = 0;
     while p < ROWS {
         p += 1;
-        if !is_row_good(t, p) {
+        if !is_row_good(t, p, wide(counts[p])) {
             return false;
         }
     }

@@ -75,7 +75,7 @@ fn is_let_or_empty(t: &[u8], s: usize) -> bool
     is_empty_seat(t, s)
 }
 
-pub(crate) fn bit(b: bool) -> usize
+fn bit(b: bool) -> usize
     ensures { λ r. ⌜ (r ≡ one b) × (r ≤ 1) ⌝ }
 {
     if b { 1 } else { 0 }

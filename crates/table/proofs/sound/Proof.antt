@@ -1,6 +1,6 @@
 -- Each exit decides the conjunction by the tests made so far: length, offsets, then seat by seat and row by row, which
 -- `sound-good` proves to be the document's order of clauses. Assumes nothing.
-use mathlib.Core.Path.{_≡_}
+use mathlib.Core.Path.{_≡_, sym, _∙_}
 use lib.ListN.{length}
 use borrow.Author.Tests.{not-true, not-false}
 use Rattle.table.specs.Table.{tableBytes}
@@ -41,12 +41,21 @@ returns-4 : tie.Need-returns-4
 returns-4 c =
     sound-last _ (c .before .before .sum-of-opens .ensures) (c .before .last .ensures .0) (c .if4 .taken)
 
+count-tabs-requires : tie.Need-count-tabs-requires
+count-tabs-requires c κs =
+    let seats = c .before .before .before in (
+      long (seats .before .before .before .before),
+      sym (seats .before .are-seats-good .ensures) ∙ not-false _
+          (seats .if3 .left),
+    )
+
 are-rows-good-requires : tie.Need-are-rows-good-requires
-are-rows-good-requires c κs = long (c .before .before .before .before .before .before .before)
+are-rows-good-requires c κs =
+    (long (c .before .before .before .before .before .before .before .before .before), c .before .count-tabs .ensures)
 
 returns-5 : tie.Need-returns-5
 returns-5 c =
-    let s4 = c .before in
+    let s4 = c .before .before .before in
     let s3 = s4 .before .before .before in
     let s2 = s3 .before .before in
     let s1 = s2 .before .before in
@@ -68,5 +77,6 @@ sound-spec =
     sum-of-opens-requires
     last-requires
     returns-4
+    count-tabs-requires
     are-rows-good-requires
     returns-5)

@@ -5,17 +5,19 @@ use mathlib.Core.Bool.{true, false}
 use mathlib.Core.List.{List}
 use mathlib.Core.Logic.{_≢_}
 use Prim.Native.Nat.{ℕ, _≤_, _<_}
+use native.Mathlib.Nat.{le-trans}
 use native.Mathlib.Omega.{arith}
 use lib.Dec.{eqb}
 use borrow.Author.Tests.{eqb-false}
-use Rattle.names.specs.Laws.Bools.{Range}
-use Rattle.table.specs.Rule.View.{opens}
+use Rattle.names.specs.Base.{within}
+use Rattle.names.specs.Laws.Bools.{Range, cases, within-at}
+use Rattle.table.specs.Rule.View.{there, tenant, selected, opens, serial, row}
 use Rattle.table.specs.Rule.Layout.{mostOpens, view}
 use Rattle.table.specs.Rule.Held.{SeatOf, TabOf, RowOf}
 use Rattle.table.specs.Rule.Word.{used}
 use Rattle.table.specs.Rule.Sound.{soundTable}
 use Rattle.table.specs.Rule.Asked.{HasSlot, Openable, Closable, TabLive}
-use Rattle.table.specs.Laws.There.{live-there, used-there}
+use Rattle.table.specs.Laws.There.{absent, live-there, used-there}
 use Rattle.table.specs.Laws.Table.{table-facts}
 
 pub sound-seat : {t : List ℕ} {s : ℕ} → soundTable t ≡ true → Range 1 8 s → SeatOf t s
@@ -28,6 +30,31 @@ pub live-tab : {t : List ℕ} {s k : ℕ} → TabLive t s k → TabOf t s k
 live-tab {t} {s} {k} w =
     let r = live-there t s k (w .there) in
     record { long = table-facts t (w .sound) .long; seat = r .0; slot = r .1 }
+
+-- a live tab hangs on a live process row, and its serial is one
+pub live-used : {t : List ℕ} {s k : ℕ} → TabLive t s k → used (view t) (view t (row s k)) ≡ true
+live-used {t} {s} {k} w =
+    let r = live-there t s k (w .there) in
+    table-facts t (w .sound) .shows .tabs-hang s k (r .0) (r .1) (w .there) .live-row
+
+pub live-row : {t : List ℕ} {s k : ℕ} → TabLive t s k → RowOf t (view t (row s k))
+live-row w = sound-row (w .sound) (live-used w)
+
+pub live-serial : {t : List ℕ} {s k : ℕ} → TabLive t s k → view t (serial s k) ≤ mostOpens
+live-serial {t} {s} {k} w =
+    let r = live-there t s k (w .there) in
+    let f = table-facts t (w .sound) .shows in
+    le-trans (f .serials-fit s k (r .0) (r .1)) (f .opens-fit s (r .0))
+
+-- the selected tab is live
+pub selected-tab : {t : List ℕ} {s : ℕ} → Closable t s → TabLive t s (view t (selected s))
+selected-tab {t} {s} w =
+    record { sound = w .sound; there = table-facts t (w .sound) .shows .selected-live s (w .seat) (w .picked) }
+
+-- a seat that shows a tenant is one of the eight
+pub let-seat : (t : List ℕ) (s : ℕ) → view t (tenant s) ≢ 0 → Range 1 8 s
+unfolding there
+let-seat t s h = within-at 1 8 s (cases (within 1 8 s) (λ e. e) (λ e. absurd (h (absent t (tenant s) e))))
 
 pub open-seat : {t : List ℕ} {s : ℕ} {suffix : List ℕ} → Openable t s suffix → SeatOf t s
 open-seat w = sound-seat (w .sound) (w .seat)

@@ -1,6 +1,6 @@
 -- Laws of `each` and `noTwo`: to all of 1 to n and back, and a loop's three places. Assumes nothing.
-use mathlib.Core.Path.{_≡_, refl, sym, ap, _∙_, subst}
-use mathlib.Core.Bool.{Bool, true, false, not, and-false}
+use mathlib.Core.Path.{_≡_, refl, sym, ap, ap₂, _∙_, subst}
+use mathlib.Core.Bool.{Bool, true, false, not, _&&_, and-false}
 use mathlib.Core.Logic.{_≢_, _⊎_, inl, inr, ⊎-elim}
 use Prim.Native.Nat.{ℕ, zero, suc, _+_, _-_, _≤_, _<_}
 use lib.Dec.{eqb, leb}
@@ -72,6 +72,18 @@ each-fail n f k r l q h = sym (each-not n f (k + 1) (range (omega arith) (omega 
 
 pub each-done : (n : ℕ) (f : ℕ → Bool) (k : ℕ) → each k f ≡ true → k ≤ n → n ≤ k → true ≡ each n f
 each-done n f k e l m = sym (subst (λ (x : ℕ). each x f ≡ true) (le-antisymm l m) e)
+
+-- what has passed is all below the one that is asked for
+pub each-below : (f : ℕ → Bool) (k : ℕ) → each k f ≡ true → each (k + 1 - 1) f ≡ true
+each-below f k e = let a : k + 1 - 1 ≡ k = omega arith in rw a e
+
+-- a loop that counts up and leaves nowhere: what is known of k, and then of k + 1
+pub each-more : (f : ℕ → Bool) (k : ℕ) (a b : Bool) → a ≡ each k f → b ≡ f (k + 1) → a && b ≡ each (k + 1) f
+unfolding each
+each-more f k a b e h = rw add-one (ap₂ _&&_ e (h ∙ ap f (add-one k)))
+
+pub each-all : (n : ℕ) (f : ℕ → Bool) (k : ℕ) (a : Bool) → a ≡ each k f → k ≤ n → n ≤ k → a ≡ each n f
+each-all n f k a e l m = subst (λ (x : ℕ). a ≡ each x f) (le-antisymm l m) e
 
 -- ---- no two
 

@@ -6,6 +6,7 @@ use mathlib.Core.Logic.{_≢_}
 use mathlib.Core.List.{List}
 use Prim.Native.Nat.{ℕ, _≤_, _<_}
 use native.Mathlib.Omega.{arith}
+use lib.ListN.{length, length-take}
 use lib.Dec.{eqb}
 use borrow.Author.Tests.{eq-eqb, eqb-true, not-true, not-false}
 use Rattle.names.specs.Base.{within}
@@ -13,13 +14,14 @@ use Rattle.names.specs.Names.{same, folded, isName, isFolded, hasDot}
 use Rattle.names.specs.Laws.Fold.{folded-folded, folded-is}
 use Rattle.names.specs.Laws.Under.{same-eq, same-of}
 use Rattle.names.specs.Laws.Bools.{agree, Range, and-left, and-right, fails}
-use Rattle.table.specs.Base.{count, lowest}
-use Rattle.table.specs.Rule.View.{View, number, owner, size}
+use Rattle.table.specs.Base.{count, lowest, series}
+use Rattle.table.specs.Rule.View.{View, number, owner, size, letter}
 use Rattle.table.specs.Rule.Word.{live, used, nameOf}
 use Rattle.table.specs.Rule.Clause.{goodName}
 use Rattle.table.specs.Rule.Find.{rowWith, processOf, processWith, freeSlot, freeProcess, liveTabs}
 use Rattle.table.specs.Laws.Each.{range}
 use Rattle.table.specs.Laws.Sum.{count-all}
+use Rattle.table.specs.Laws.Series.{length-series}
 use Rattle.table.specs.Laws.Lowest.{lowest-ext, lowest-at, lowest-nil}
 use Rattle.table.specs.Laws.Sound.{Sound}
 
@@ -30,6 +32,14 @@ same-folded a b =
     (λ e. same-of a (folded b) (same-eq a b e ∙ sym (folded-folded b)))
 
 module _ (v : View) where
+  -- a row's name fits its room
+  pub name-short : (p : ℕ) → length (nameOf v p) ≤ 64
+  unfolding nameOf
+  name-short p =
+      let a = length-take (v (size p)) (series 64 (λ j. v (letter p j))) in
+      let b = length-series 64 (λ j. v (letter p j)) in
+      omega (arith, a, b)
+
   -- ---- slots
 
   pub record FreeSlot (s k : ℕ) : Type 0 where

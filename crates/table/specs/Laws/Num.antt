@@ -9,6 +9,26 @@ use lib.ListN.{length, getD, set, length-set}
 use lib.Seq.{getD-set-same, getD-set-other}
 use Rattle.table.specs.Rule.Num.{num, put}
 
+-- ---- by the last byte
+
+pub num-zero : (t : List ℕ) (at : ℕ) → num t at 0 ≡ 0
+unfolding num
+num-zero t at = refl
+
+pub num-suc : (t : List ℕ) (at w : ℕ) → num t at (suc w) ≡ num t at w * 256 + getD t (at + w) 0
+unfolding num
+num-suc t at w = refl
+
+pub put-zero : (t : List ℕ) (at x : ℕ) → put t at 0 x ≡ t
+unfolding put
+put-zero t at x = refl
+
+pub put-suc : (t : List ℕ) (at w x : ℕ) → put t at (suc w) x ≡ set (put t at w (x / 256)) (at + w) (x % 256)
+unfolding put
+put-suc t at w x = refl
+
+-- ---- read after write
+
 -- none of the w bytes from a is one of the v bytes from b
 abbrev pub Apart : ℕ → ℕ → ℕ → ℕ → Type 0
 Apart a w b v = (i j : ℕ) → i < w → j < v → a + i ≢ b + j

@@ -39,7 +39,7 @@ tabs-le v =
     (sum-mono 8 (λ s. sum 10 (λ k. sum 80 (λ p. f p s k))) (λ s. sum 10 (λ k. one (live v s k)))
     (λ s r. sum-mono 10 (λ k. sum 80 (λ p. f p s k)) (λ k. one (live v s k)) (λ k q. one-row v s k)))
 
-tabs-most : (v : View) (s : ℕ) → liveTabs v s ≤ 10
+pub tabs-most : (v : View) (s : ℕ) → liveTabs v s ≤ 10
 unfolding liveTabs
 tabs-most v s = count-le 10 (λ k. live v s k)
 

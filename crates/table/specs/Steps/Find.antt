@@ -8,17 +8,25 @@ use native.Mathlib.Omega.{arith}
 use lib.Dec.{eqb}
 use borrow.Author.Tests.{eq-eqb, ne-eqb}
 use Rattle.names.specs.Names.{same}
-use Rattle.names.specs.Laws.Bools.{fails}
+use Rattle.names.specs.Base.{within}
+use Rattle.names.specs.Laws.Bools.{Range, cases, within-at, fails}
 use Rattle.table.specs.Base.{lowest}
-use Rattle.table.specs.Rule.View.{View, serial, number, owner}
+use Rattle.table.specs.Rule.View.{View, there, tenant, serial, number, owner}
 use Rattle.table.specs.Rule.Layout.{view, seatOfId, serialOfId}
 use Rattle.table.specs.Rule.Word.{live, used, nameOf}
 use Rattle.table.specs.Rule.Find.{tabHas, rowHas, rowWith, slotOf, placeIn, tabOf, processOf, processWith, freeProcess}
 use Rattle.table.specs.declared.find.Place.the-variants.{Nowhere, At}
 use Rattle.table.specs.Laws.Lowest.{lowest-none}
-use Rattle.table.specs.Laws.There.{live-there}
+use Rattle.table.specs.Laws.There.{absent, live-there}
 use Rattle.table.specs.Steps.Tab.{live-if, free-if}
 use Rattle.table.specs.Steps.Row.{used-if, unused-if}
+
+-- ---- a seat that is let
+
+-- one that is not of the eight shows no tenant
+pub unlet : (t : List ℕ) (s : ℕ) → (Range 1 8 s → ⊥) → false ≡ not (eqb (view t (tenant s)) 0)
+unfolding there
+unlet t s h = sym (ap not (eq-eqb (view t (tenant s)) 0 (cases (within 1 8 s) (λ e. absurd (h (within-at 1 8 s e))) (λ e. absent t (tenant s) e))))
 
 module _ (v : View) where
   -- ---- a slot with a serial

@@ -177,9 +177,9 @@ last-lies = record { is = refl; place = refl; wide = refl }
 abbrev pub Wiped : List ℕ → ℕ → Type 0
 Wiped t i = take i t ≡ series i (λ j. 0)
 
-pub wiped-none : (t : List ℕ) → Wiped t 0
+pub wiped-none : (t : List ℕ) (i : ℕ) → i ≡ 0 → Wiped t i
 unfolding series
-wiped-none t = refl
+wiped-none t i e = rw e
 
 -- a zero in front is a zero behind
 zeros-snoc : (n : ℕ) → series n (λ j. 0) ++ (0 ∷ []) ≡ 0 ∷ series n (λ j. 0)

@@ -7,16 +7,17 @@ use borrow.Author.Tests.{not-true, not-false}
 use Rattle.table.specs.Base.{each}
 use Rattle.table.specs.Table.{view}
 use Rattle.table.specs.Inner.{rowGood}
-use Rattle.table.specs.Laws.Each.{each-none, each-pass, each-fail, each-done}
+use Rattle.table.specs.Laws.Each.{range, each-none, each-pass, each-fail, each-done, each-below}
+use Rattle.table.specs.Steps.Count.{pointing-is}
 use borrow.Author.Needs.{needs}
 use Rattle.table.proofs.row.are_rows_good.Statement.{statement}
 use Rattle.table.proofs.row.are_rows_good.Tie as tie
 
 abbrev Inv-loop : tie.InvT-loop
-Inv-loop t p₀ p = (p ≤ 80) × (each p (λ x. rowGood (view t) x) ≡ true)
+Inv-loop t counts p₀ p = (p ≤ 80) × (each p (λ x. rowGood (view t) x) ≡ true)
 
 abbrev μ-loop : tie.MeasureT-loop
-μ-loop t p₀ p = 80 - p
+μ-loop t counts p₀ p = 80 - p
 
 loop-holds : tie.Need-loop-holds Inv-loop μ-loop
 loop-holds c = (omega arith, each-none _)
@@ -24,21 +25,33 @@ loop-holds c = (omega arith, each-none _)
 add-p : tie.Need-add-p Inv-loop μ-loop
 add-p c = search needs
 
+element-copy-out-wide : tie.Need-element-copy-out-wide Inv-loop μ-loop
+element-copy-out-wide c = search needs
+
+wide-requires : tie.Need-wide-requires Inv-loop μ-loop
+wide-requires c κs = search needs
+
 is-row-good-requires : tie.Need-is-row-good-requires Inv-loop μ-loop
-is-row-good-requires c κs = search needs
+is-row-good-requires c κs =
+    let at-loop = c .before .before .before in
+    let start = c .before .before .before .before .before in (
+      record { long = start .pre .0; row = range (omega arith) (omega arith) },
+      each-below _ _ (at-loop .loop .inv .1),
+      pointing-is _ _ (start .pre .1) (range (omega arith) (omega arith)) (c .wide .ensures .0),
+    )
 
 returns : tie.Need-returns Inv-loop μ-loop
 returns c =
-    each-fail _ _ _ _ (c .before .before .loop-test .taken) (c .before .is-row-good .ensures)
-    (not-true _ (c .if1 .taken))
+    let at-loop-test = c .before .before .before .before in
+    each-fail _ _ _ _ (at-loop-test .loop-test .taken) (c .before .is-row-good .ensures) (not-true _ (c .if1 .taken))
 
 loop-less : tie.Need-loop-less Inv-loop μ-loop
 loop-less c = search needs
 
 loop-again : tie.Need-loop-again Inv-loop μ-loop
 loop-again c =
-    let e = c .before .before .before .loop .inv .1 in
-    (omega arith, each-pass _ _ _ e (c .before .is-row-good .ensures) (not-false _ (c .if1 .left)))
+    let at-loop = c .before .before .before .before .before in
+    (omega arith, each-pass _ _ _ (at-loop .loop .inv .1) (c .before .is-row-good .ensures) (not-false _ (c .if1 .left)))
 
 returns-2 : tie.Need-returns-2 Inv-loop μ-loop
 returns-2 c = each-done _ _ _ (c .before .loop .inv .1) (c .before .loop .inv .0) (c .loop-test .left)
@@ -51,6 +64,8 @@ are-rows-good-spec =
     μ-loop
     loop-holds
     add-p
+    element-copy-out-wide
+    wide-requires
     is-row-good-requires
     returns
     loop-less

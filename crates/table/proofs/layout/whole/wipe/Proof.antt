@@ -3,7 +3,7 @@ use mathlib.Core.Path.{_≡_, refl, _∙_}
 use Prim.Native.Nat.{_≤_, _-_}
 use lib.ListN.{length, length-set}
 use native.Mathlib.Omega.{arith}
-use Rattle.table.specs.Steps.Layout.{Wiped, wiped-none, wiped-more, blank-is}
+use Rattle.table.specs.Steps.Layout.{table-bytes, Wiped, wiped-none, wiped-more, blank-is}
 use borrow.Author.Needs.{needs}
 use Rattle.table.proofs.layout.whole.wipe.Statement.{statement}
 use Rattle.table.proofs.layout.whole.wipe.Tie as tie
@@ -15,7 +15,9 @@ abbrev μ-loop : tie.MeasureT-loop
 μ-loop t₀ i₀ t i = length t - i
 
 loop-holds : tie.Need-loop-holds Inv-loop μ-loop
-loop-holds c = (omega arith, (refl, wiped-none (c .before .args .t .now)))
+loop-holds c =
+    let long = c .before .pre in
+    (omega (arith, long, table-bytes), (refl, wiped-none (c .before .args .t .now) _ (omega arith)))
 
 slice-write-t : tie.Need-slice-write-t Inv-loop μ-loop
 slice-write-t c = search needs
