@@ -1,0 +1,26 @@
+-- What follows from the definitions, for this crate and every layer above. To be cited first:
+--   Read     reading-in: the parts of an event that is read lie in its bytes
+--   Memory   read-frame: what stands in memory for an event is the event; be-num, be-byte
+--   Open     open-openable: an open with number 0 is one that the table takes; acceptable-suffix
+--   Frame    length-be, length-bytes, length-frames, length-part
+--   Over     length-over, over-nothing, over-byte, over-over, over-front, over-past: bytes written over a room
+--   Sent     sent-then, sent-one: frames sent one after another
+--   Outcome  step-orderly: every outcome of a step is orderly
+--   Answer   packed-number, packed-actions, packed-written; what a caller reads out of an answer and finds in the room
+--   Start    start-starts, start-alone: every outcome of a start
+-- Cases is how a choice is gone through. Line says what a reading is, a constructor for each line of the document's table of
+-- events: match on it. Orderly is what holds of every outcome; Seat and Tab prove it rule by rule.
+pub mod Cases
+pub mod Frame
+pub mod Over
+pub mod Sent
+pub mod Line
+pub mod Read
+pub mod Memory
+pub mod Open
+pub mod Orderly
+pub mod Seat
+pub mod Tab
+pub mod Outcome
+pub mod Answer
+pub mod Start
