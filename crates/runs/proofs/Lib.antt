@@ -1,1 +1,3 @@
+-- Laws that several proofs cite.
+pub mod Digits
 pub mod Stores

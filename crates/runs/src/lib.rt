@@ -1,4 +1,12 @@
 // What the programs share that run a layer's boundaries.
+pub mod changes;
+pub mod hexed;
+pub mod number;
+pub mod parts;
+pub mod say;
+pub mod script;
+pub mod shape;
+
 ghost use mathlib.Core.Path.{_≡_};
 ghost use lib.Seq.{sets};
 

@@ -1,3 +1,2 @@
 -- Laws that several proofs cite.
 pub mod Answer
-pub mod Digits

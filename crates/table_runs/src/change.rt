@@ -1,16 +1,16 @@
 // The commands that ask for an update of the table, and what it changed or why it was refused.
-use crate::changes;
-use crate::number::number_at;
-use crate::parts::part;
-use crate::parts::word;
-use crate::say;
 use crate::shape::CLOSE;
 use crate::shape::MARK;
 use crate::shape::OPEN;
 use crate::shape::PICK;
 use crate::shape::mark_at;
 use crate::update;
+use runs::changes;
+use runs::number::number_at;
+use runs::parts::part;
+use runs::parts::word;
 use runs::put;
+use runs::say;
 
 // What stands against the update that the line asks for, or 0: then it is done.
 fn ask(t: &mut [u8], l: &[u8], c: usize) -> usize {

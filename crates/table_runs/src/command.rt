@@ -2,8 +2,6 @@
 use crate::change;
 use crate::damage;
 use crate::found;
-use crate::parts::end_of;
-use crate::say;
 use crate::seat;
 use crate::shape::BACK;
 use crate::shape::FRESH;
@@ -11,15 +9,10 @@ use crate::shape::KEEP;
 use crate::shape::POKE;
 use crate::shape::command_of;
 use crate::whole;
+use runs::parts::end_of;
 use runs::put;
-
-// A heading or an empty line, which is printed as it is.
-fn is_heading(l: &[u8]) -> bool {
-    if l.len() == 0 {
-        return true;
-    }
-    l[0] == b'#'
-}
+use runs::say;
+use runs::script::is_heading;
 
 // The command asks about the table, and is answered.
 fn is_answered(t: &[u8], l: &[u8], c: usize) -> bool {

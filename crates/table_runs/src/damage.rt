@@ -1,10 +1,10 @@
 // The commands that write the table whatever was there: fresh, and bytes at a place.
-use crate::changes;
-use crate::hexed::bytes_of;
-use crate::number::number_at;
-use crate::parts::word;
-use crate::say;
+use runs::changes;
+use runs::hexed::bytes_of;
+use runs::number::number_at;
+use runs::parts::word;
 use runs::put;
+use runs::say;
 
 // 0, or 6 if the book is unsound.
 fn fresh_from(t: &mut [u8], book: &[u8]) -> usize {

@@ -1,11 +1,11 @@
 // The commands that look up a tab, a process or a free process row.
-use crate::number::number_at;
-use crate::parts::word;
-use crate::say;
 use crate::shape::PROCESS;
 use crate::shape::ROW;
 use crate::shape::TAB;
 use crate::shape::WITH;
+use runs::number::number_at;
+use runs::parts::word;
+use runs::say;
 use table::find::Place;
 ghost use mathlib.Core.Path.{_≡_};
 ghost use lib.ListN.{length};

@@ -1,11 +1,11 @@
 // The commands that ask about one seat, or one process row.
-use crate::number::number_at;
-use crate::say;
 use crate::shape::COUNT;
 use crate::shape::NAME;
 use crate::shape::OWNER;
 use crate::shape::SLOT;
 use crate::why;
+use runs::number::number_at;
+use runs::say;
 ghost use mathlib.Core.Path.{_≡_};
 ghost use Prim.Native.Nat.{_≤_};
 ghost use lib.ListN.{length};

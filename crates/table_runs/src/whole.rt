@@ -1,11 +1,11 @@
 // The commands on the table as a whole: whether it is sound, or a part of it would be, and its bytes.
-use crate::hexed::say_bytes;
-use crate::number::number_at;
-use crate::say;
 use crate::shape::CUT;
 use crate::shape::SHOW;
 use crate::shape::SOUND;
+use runs::hexed::say_bytes;
+use runs::number::number_at;
 use runs::put;
+use runs::say;
 
 fn is_part_sound(room: &[u8], n: usize) -> bool {
     if room.len() < n {

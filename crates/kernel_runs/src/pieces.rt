@@ -1,0 +1,130 @@
+// Bytes as a script writes them, in words: "text", its bytes; 25, one byte; 2:80 or 4:65537, a number in two bytes or in four;
+// 20*a, the letter 20 times.
+use runs::changes::byte_at;
+use runs::number::is_number;
+use runs::number::value_of;
+use runs::parts::part;
+use runs::parts::spaces;
+use runs::parts::word;
+use std::num::wrapping_add_usize;
+use std::num::wrapping_sub_usize;
+ghost use Prim.Native.Nat.{_≤_};
+ghost use lib.ListN.{length};
+
+fn is_text(w: &[u8]) -> bool {
+    if w.len() < 3 {
+        return false;
+    }
+    if w[0] != b'"' {
+        return false;
+    }
+    w[w.len() - 1] == b'"'
+}
+
+fn is_repeated(w: &[u8]) -> bool {
+    part(w, b'*', 1).len() == 1
+}
+
+// The bytes that a number is to have by the digit before its colon.
+fn width_of(w: &[u8]) -> usize {
+    let n = value_of(part(w, b':', 0));
+    if n == 2 {
+        return 2;
+    }
+    if n == 4 {
+        return 4;
+    }
+    0
+}
+
+// How many bytes a word stands for; 0 if for none.
+fn count_of(w: &[u8]) -> usize {
+    if is_text(w) {
+        return wrapping_sub_usize(w.len(), 2);
+    }
+    if is_number(w) {
+        return 1;
+    }
+    if is_repeated(w) {
+        return value_of(part(w, b'*', 0));
+    }
+    if is_number(part(w, b':', 1)) {
+        return width_of(w);
+    }
+    0
+}
+
+// The byte of a number with so many after it.
+fn digit_of(n: usize, after: usize) -> u8 {
+    let mut left = n;
+    let mut k = after;
+    while 0 < k {
+        left = left / 256;
+        k -= 1;
+    }
+    (left % 256) as u8
+}
+
+// Byte i of the count that a word stands for.
+fn byte_of(w: &[u8], count: usize, i: usize) -> u8 {
+    if is_text(w) {
+        return byte_at(w, wrapping_add_usize(i, 1));
+    }
+    if is_number(w) {
+        return digit_of(value_of(w), 0);
+    }
+    if is_repeated(w) {
+        return byte_at(part(w, b'*', 1), 0);
+    }
+    if count <= i {
+        return 0;
+    }
+    digit_of(value_of(part(w, b':', 1)), count - i - 1)
+}
+
+// Writes a word's bytes from a place on, as many as there is room for, and gives the place after them.
+fn put_word(to: &mut [u8], at: usize, w: &[u8]) -> usize
+    requires { ⌜ at ≤ length (now to) ⌝ }
+    ensures { λ r. ⌜ (at ≤ r) × (r ≤ length (now (to .exit))) ⌝ }
+{
+    let count = count_of(w);
+    let mut end = at;
+    let mut i: usize = 0;
+    while i < count {
+        if to.len() <= end {
+            return end;
+        }
+        to[end] = byte_of(w, count, i);
+        end += 1;
+        i += 1;
+    }
+    end
+}
+
+// Writes the bytes of a line's words from word k on, and gives the place after them.
+pub fn put_words(to: &mut [u8], at: usize, l: &[u8], k: usize) -> usize
+    requires { ⌜ at ≤ length (now to) ⌝ }
+    ensures { λ r. ⌜ (at ≤ r) × (r ≤ length (now (to .exit))) ⌝ }
+{
+    let last = spaces(l);
+    let mut end = at;
+    let mut j = k;
+    while j <= last {
+        end = put_word(to, end, word(l, j));
+        j += 1;
+    }
+    end
+}
+
+// The words of a line from word k on stand for bytes.
+pub fn are_bytes(l: &[u8], k: usize) -> bool {
+    let last = spaces(l);
+    let mut j = k;
+    while j <= last {
+        if count_of(word(l, j)) == 0 {
+            return false;
+        }
+        j += 1;
+    }
+    true
+}
