@@ -5,8 +5,8 @@ use names::under::is_under;
 ghost use mathlib.Core.Path.{_≡_};
 ghost use Prim.Native.Nat.{ℕ};
 ghost use Rattle.names.specs.Base.{every, within};
-ghost use Rattle.kernel.specs.Kernel.{cookieDomain, socketHost, socketAllowed, isUrl};
-ghost use Rattle.kernel.specs.Inner.{goesOn};
+ghost use Rattle.rules.specs.Rules.{cookieDomain, socketHost, socketAllowed, isUrl};
+ghost use Rattle.rules.specs.Inner.{goesOn};
 
 // A domain whose cookies a tab of this suffix may store and retrieve.
 pub fn is_cookie_domain(domain: &[u8], suffix: &[u8]) -> bool

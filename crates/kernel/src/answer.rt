@@ -1,14 +1,9 @@
-// A step's answer: the document's number, how many actions were given and how many bytes they have.
+// A step's answer, made and packed.
+use rules::given::Given;
 ghost use mathlib.Core.Path.{_≡_};
 ghost use Prim.Native.Nat.{_≤_};
-ghost use Rattle.kernel.specs.Kernel.{packed};
-ghost use Rattle.kernel.specs.Inner.{Says};
-
-pub struct Given {
-    pub number: u8,
-    pub actions: u8,
-    pub written: u16,
-}
+ghost use Rattle.rules.specs.Rules.{packed};
+ghost use Rattle.rules.specs.Inner.{Says};
 
 pub fn refused(number: u8) -> Given
     ensures { λ r. ⌜ Says number 0 0 r ⌝ }

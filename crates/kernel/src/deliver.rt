@@ -2,12 +2,12 @@
 use crate::action::COOKIE;
 use crate::action::DOCUMENT;
 use crate::action::TAB;
-use crate::answer::Given;
 use crate::answer::done;
 use crate::answer::refused;
 use crate::desk::id;
 use crate::desk::process;
 use crate::send::send_raw;
+use rules::given::Given;
 use table::mark::Mark;
 use table::mark::clear_mark;
 use table::mark::is_waiting;
@@ -19,8 +19,8 @@ ghost use lib.ListN.{length};
 ghost use lib.Dec.{eqb};
 ghost use Rattle.table.specs.Table.{TabLive};
 ghost use Rattle.table.specs.declared.mark.Mark.the-variants.{Cookie};
-ghost use Rattle.kernel.specs.Kernel.{framed, deskAt, clearMark, reply, resultRule, documentRule};
-ghost use Rattle.kernel.specs.Inner.{Replied, ReadyTab, Awaited};
+ghost use Rattle.rules.specs.Rules.{framed, deskAt, clearMark, reply, resultRule, documentRule};
+ghost use Rattle.rules.specs.Inner.{Replied, ReadyTab, Awaited};
 
 // The tab hangs on process n and waits for a cookie.
 fn is_asked(t: &[u8], s: usize, k: usize, n: usize) -> bool

@@ -8,7 +8,7 @@ use table::layout::tabs;
 ghost use mathlib.Core.Path.{_≡_};
 ghost use Prim.Native.Nat.{_<_};
 ghost use Rattle.table.specs.Table.{TabLive};
-ghost use Rattle.kernel.specs.Kernel.{deskAt};
+ghost use Rattle.rules.specs.Rules.{deskAt};
 
 pub fn id(t: &[u8], s: usize, k: usize) -> usize
     requires { ⌜ TabLive (now t) s k ⌝ }

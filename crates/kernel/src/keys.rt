@@ -7,7 +7,6 @@ use crate::action::SCREEN;
 use crate::action::STOP_PROCESS;
 use crate::action::STOP_TAB;
 use crate::action::TAB;
-use crate::answer::Given;
 use crate::answer::done;
 use crate::answer::refused;
 use crate::desk::id;
@@ -18,6 +17,7 @@ use crate::send::send_bare;
 use crate::send::send_raw;
 use names::byte::is_within;
 use names::byte::wide;
+use rules::given::Given;
 use table::close::pick;
 use table::layout::selected;
 use table::tab::is_live;
@@ -26,9 +26,9 @@ ghost use mathlib.Core.List.{[], _∷_};
 ghost use Prim.Native.Nat.{ℕ, _+_, _≤_};
 ghost use lib.ListN.{length};
 ghost use Rattle.names.specs.Laws.Bools.{Range};
-ghost use Rattle.kernel.specs.Kernel.{framed, deskAt, selectRule, closeRule, passRule, plain, keyRule, render, bar};
-ghost use Rattle.kernel.specs.Kernel.{stopProcess};
-ghost use Rattle.kernel.specs.Inner.{Sent, Fits, Replied, Ready, ReadyTab, only, closeActions, Shows, barOf};
+ghost use Rattle.rules.specs.Rules.{framed, deskAt, selectRule, closeRule, passRule, plain, keyRule, render, bar};
+ghost use Rattle.rules.specs.Rules.{stopProcess};
+ghost use Rattle.rules.specs.Inner.{Sent, Fits, Replied, Ready, ReadyTab, only, closeActions, Shows, barOf};
 
 // The bar of a seat: the suffix of the tab in slot k, or empty for slot 0.
 fn send_bar(t: &[u8], out: &mut [u8], at: usize, s: usize, k: usize) -> usize

@@ -5,7 +5,6 @@ mod allow;
 mod answer;
 mod deliver;
 mod desk;
-pub mod event;
 mod keys;
 mod open;
 mod put;
@@ -14,19 +13,19 @@ mod send;
 mod serve;
 mod tab;
 
-use crate::answer::Given;
 use crate::answer::pack;
 use crate::answer::refused;
-use crate::event::Reading;
 use crate::read::read;
 use crate::serve::serve;
 use names::book::is_sound;
+use rules::event::Reading;
+use rules::given::Given;
 use table::fresh::fresh;
 use table::layout::is_long;
 use table::sound;
 ghost use lib.ListN.{length};
-ghost use Rattle.kernel.specs.Kernel.{stepOf, startOf, Stepped, Started};
-ghost use Rattle.kernel.specs.Inner.{Decided};
+ghost use Rattle.rules.specs.Rules.{stepOf, startOf, Stepped, Started};
+ghost use Rattle.rules.specs.Inner.{Decided};
 
 const ROOM: usize = 4106;
 

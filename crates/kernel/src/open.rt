@@ -6,11 +6,11 @@ use crate::action::SCREEN;
 use crate::action::START_PROCESS;
 use crate::action::START_TAB;
 use crate::action::TAB;
-use crate::answer::Given;
 use crate::answer::done;
 use crate::answer::refused;
 use crate::send::send_bare;
 use crate::send::send_name;
+use rules::given::Given;
 use table::find::process_with;
 use table::layout::is_spent;
 use table::layout::last;
@@ -24,9 +24,9 @@ ghost use Prim.Native.Nat.{_+_, _≤_, _<_};
 ghost use lib.ListN.{length};
 ghost use Rattle.names.specs.Names.{folded};
 ghost use Rattle.table.specs.Table.{view};
-ghost use Rattle.kernel.specs.Kernel.{deskAt, reply, openTab, openRule, startProcess, startTab, go, bar};
-ghost use Rattle.kernel.specs.Inner.{Sent, Fits, Replied, Ready, bookNumber, openNumber, only, openActions, Opening};
-ghost use Rattle.kernel.specs.Inner.{Taking, Found, newId};
+ghost use Rattle.rules.specs.Rules.{deskAt, reply, openTab, openRule, startProcess, startTab, go, bar};
+ghost use Rattle.rules.specs.Inner.{Sent, Fits, Replied, Ready, bookNumber, openNumber, only, openActions, Opening};
+ghost use Rattle.rules.specs.Inner.{Taking, Found, newId};
 
 // 6 for an unsound book, 7 for a suffix that is not all of its own suffix under it, or 0. The question tells both.
 fn book_number(book: &[u8], x: &[u8]) -> u8

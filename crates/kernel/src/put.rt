@@ -5,8 +5,8 @@ ghost use mathlib.Core.Bool.{cond};
 ghost use Prim.Native.Nat.{_+_, _≤_, _<_};
 ghost use lib.ListN.{length};
 ghost use Rattle.names.specs.Names.{lower};
-ghost use Rattle.kernel.specs.Kernel.{be, head};
-ghost use Rattle.kernel.specs.Inner.{Put};
+ghost use Rattle.rules.specs.Rules.{be, head};
+ghost use Rattle.rules.specs.Inner.{Put};
 
 fn byte_of(x: u8, folding: bool) -> u8
     ensures { λ r. ⌜ r ≡ cond folding (lower x) x ⌝ }

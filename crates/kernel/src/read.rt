@@ -1,11 +1,11 @@
 // The bytes of an event, read as what stands for it in memory.
-use crate::event::Delivery;
-use crate::event::Event;
-use crate::event::Part;
-use crate::event::Reading;
-use crate::event::SeatMessage;
-use crate::event::TabMessage;
 use names::byte::wide;
+use rules::event::Delivery;
+use rules::event::Event;
+use rules::event::Part;
+use rules::event::Reading;
+use rules::event::SeatMessage;
+use rules::event::TabMessage;
 use table::num::four_at;
 use table::num::two_at;
 ghost use mathlib.Core.Path.{_≡_};
@@ -13,8 +13,8 @@ ghost use mathlib.Core.Bool.{_&&_};
 ghost use Prim.Native.Nat.{_+_, _≤_};
 ghost use lib.ListN.{length};
 ghost use lib.Dec.{eqb, leb};
-ghost use Rattle.kernel.specs.Kernel.{readingOf};
-ghost use Rattle.kernel.specs.Inner.{sized, fromSeat, fromTab, sentBy, delivered, rest};
+ghost use Rattle.rules.specs.Rules.{readingOf};
+ghost use Rattle.rules.specs.Inner.{sized, fromSeat, fromTab, sentBy, delivered, rest};
 
 const HEAD: usize = 10;
 

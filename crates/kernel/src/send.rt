@@ -5,8 +5,8 @@ ghost use mathlib.Core.List.{[], _∷_, _++_};
 ghost use Prim.Native.Nat.{_+_};
 ghost use lib.ListN.{length};
 ghost use Rattle.names.specs.Names.{folded};
-ghost use Rattle.kernel.specs.Kernel.{framed};
-ghost use Rattle.kernel.specs.Inner.{Sent, Fits};
+ghost use Rattle.rules.specs.Rules.{framed};
+ghost use Rattle.rules.specs.Inner.{Sent, Fits};
 
 // The payload is some bytes, a name that is folded, and some bytes.
 pub fn send(

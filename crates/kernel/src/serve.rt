@@ -1,14 +1,8 @@
 // Which rule an event asks for, and of which seat or tab.
 use crate::action::MOUSE;
-use crate::answer::Given;
 use crate::answer::refused;
 use crate::deliver::document;
 use crate::deliver::result;
-use crate::event::Delivery;
-use crate::event::Event;
-use crate::event::Part;
-use crate::event::SeatMessage;
-use crate::event::TabMessage;
 use crate::keys::key;
 use crate::keys::pass;
 use crate::open::open;
@@ -17,14 +11,20 @@ use crate::tab::retrieve;
 use crate::tab::socket;
 use crate::tab::store;
 use crate::tab::url;
+use rules::event::Delivery;
+use rules::event::Event;
+use rules::event::Part;
+use rules::event::SeatMessage;
+use rules::event::TabMessage;
+use rules::given::Given;
 use table::find::Place;
 use table::find::is_let;
 use table::find::process_of;
 use table::find::tab_of;
 ghost use mathlib.Core.Path.{_≡_};
-ghost use Rattle.kernel.specs.declared.event.Event.the-variants.{Seat, Tab, Process, Network};
-ghost use Rattle.kernel.specs.Kernel.{part, deskAt, seatRule, tabRule, eventRule};
-ghost use Rattle.kernel.specs.Inner.{Decided, Replied, Ready, ReadyTab, PartIn, SeatIn, TabIn, EventIn, Served};
+ghost use Rattle.rules.specs.declared.event.Event.the-variants.{Seat, Tab, Process, Network};
+ghost use Rattle.rules.specs.Rules.{part, deskAt, seatRule, tabRule, eventRule};
+ghost use Rattle.rules.specs.Inner.{Decided, Replied, Ready, ReadyTab, PartIn, SeatIn, TabIn, EventIn, Served};
 
 // The bytes of an event that a part is.
 fn part_of<'e>(e: &'e [u8], p: Part) -> &'e [u8]

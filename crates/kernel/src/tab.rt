@@ -13,7 +13,6 @@ use crate::action::TAB;
 use crate::allow::is_cookie_domain;
 use crate::allow::is_socket_allowed;
 use crate::allow::is_url;
-use crate::answer::Given;
 use crate::answer::done;
 use crate::desk::id;
 use crate::desk::process;
@@ -24,6 +23,7 @@ use crate::send::send;
 use crate::send::send_bare;
 use crate::send::send_name;
 use crate::send::send_raw;
+use rules::given::Given;
 use table::layout::selected;
 use table::mark::Mark;
 use table::mark::is_waiting;
@@ -35,9 +35,9 @@ ghost use Prim.Native.Nat.{_+_, _≤_, _<_};
 ghost use lib.ListN.{length};
 ghost use Rattle.table.specs.Table.{TabLive};
 ghost use Rattle.table.specs.declared.mark.Mark.the-variants.{Cookie, Document};
-ghost use Rattle.kernel.specs.Kernel.{deskAt, isUrl, cookieDomain, error, reply, stay};
-ghost use Rattle.kernel.specs.Kernel.{displayRule, socketRule, urlRule, storeRule, retrieveRule};
-ghost use Rattle.kernel.specs.Inner.{Replied, ReadyTab};
+ghost use Rattle.rules.specs.Rules.{deskAt, isUrl, cookieDomain, error, reply, stay};
+ghost use Rattle.rules.specs.Rules.{displayRule, socketRule, urlRule, storeRule, retrieveRule};
+ghost use Rattle.rules.specs.Inner.{Replied, ReadyTab};
 
 // One error action to the tab.
 fn deny(t: &[u8], out: &mut [u8], s: usize, k: usize) -> Given

@@ -1,8 +1,8 @@
 -- The refusals 1, 2 and 3 in this order; an event that is read has its parts in its bytes. Assumes nothing.
 use mathlib.Core.Path.{sym, _∙_}
 use borrow.Author.Tests.{not-true, not-false}
-use Rattle.kernel.specs.Laws.Read.{reading-in}
-use Rattle.kernel.specs.Steps.Step.{room-small, table-unsound, event-malformed, event-served}
+use Rattle.rules.specs.Laws.Read.{reading-in}
+use Rattle.rules.specs.Steps.Step.{room-small, table-unsound, event-malformed, event-served}
 use native.Mathlib.Omega.{arith}
 use borrow.Author.Needs.{needs}
 use Rattle.kernel.proofs.decide.Statement.{statement}

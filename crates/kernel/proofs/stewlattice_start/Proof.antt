@@ -1,7 +1,7 @@
 -- The length first, and then the book. Assumes nothing.
 use mathlib.Core.Path.{sym, _∙_}
 use borrow.Author.Tests.{eqb-true, not-true, not-false}
-use Rattle.kernel.specs.Steps.Step.{start-long, start-book, start-done}
+use Rattle.rules.specs.Steps.Step.{start-long, start-book, start-done}
 use borrow.Author.Needs.{needs}
 use Rattle.kernel.proofs.stewlattice_start.Statement.{statement}
 use Rattle.kernel.proofs.stewlattice_start.Tie as tie

@@ -1,6 +1,6 @@
 -- The answer is what was decided, packed. Assumes nothing.
 use native.Mathlib.Omega.{arith}
-use Rattle.kernel.specs.Steps.Step.{step-packed}
+use Rattle.rules.specs.Steps.Step.{step-packed}
 use borrow.Author.Needs.{needs}
 use Rattle.kernel.proofs.stewlattice_step.Statement.{statement}
 use Rattle.kernel.proofs.stewlattice_step.Tie as tie

@@ -4,7 +4,7 @@ use Prim.Native.Nat.{_≤_, _-_}
 use lib.ListN.{length}
 use borrow.Author.Tests.{not-true, not-false}
 use Rattle.names.specs.Base.{within, every}
-use Rattle.kernel.specs.Steps.Allow.{seenFrom, seen-start, seen-not, seen-more, seen-all}
+use Rattle.rules.specs.Steps.Allow.{seenFrom, seen-start, seen-not, seen-more, seen-all}
 use borrow.Author.Needs.{needs}
 use Rattle.kernel.proofs.allow.are_seen.Statement.{statement}
 use Rattle.kernel.proofs.allow.are_seen.Tie as tie

@@ -2,8 +2,8 @@
 use mathlib.Core.Path.{_≡_, sym, _∙_}
 use Prim.Native.Nat.{_≤_, _<_, _-_}
 use lib.ListN.{length}
-use Rattle.kernel.specs.Inner.{goesOn}
-use Rattle.kernel.specs.Steps.Allow.{frontFrom, front-short, front-start, front-unlike, front-more, front-all}
+use Rattle.rules.specs.Inner.{goesOn}
+use Rattle.rules.specs.Steps.Allow.{frontFrom, front-short, front-start, front-unlike, front-more, front-all}
 use borrow.Author.Needs.{needs}
 use Rattle.kernel.proofs.allow.goes_on.Statement.{statement}
 use Rattle.kernel.proofs.allow.goes_on.Tie as tie

@@ -1,6 +1,6 @@
 -- The two tests, one after the other. Assumes nothing.
 use borrow.Author.Tests.{not-true, not-false}
-use Rattle.kernel.specs.Steps.Allow.{cookie-unnamed, cookie-named}
+use Rattle.rules.specs.Steps.Allow.{cookie-unnamed, cookie-named}
 use borrow.Author.Needs.{needs}
 use Rattle.kernel.proofs.allow.is_cookie_domain.Statement.{statement}
 use Rattle.kernel.proofs.allow.is_cookie_domain.Tie as tie

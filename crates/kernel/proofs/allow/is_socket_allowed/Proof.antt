@@ -1,5 +1,5 @@
 -- The two tests, one after the other. Assumes nothing.
-use Rattle.kernel.specs.Steps.Allow.{socket-none, socket-some}
+use Rattle.rules.specs.Steps.Allow.{socket-none, socket-some}
 use borrow.Author.Needs.{needs}
 use Rattle.kernel.proofs.allow.is_socket_allowed.Statement.{statement}
 use Rattle.kernel.proofs.allow.is_socket_allowed.Tie as tie

@@ -1,6 +1,6 @@
 -- The two tests, one after the other. Assumes nothing.
 use borrow.Author.Tests.{not-true, not-false}
-use Rattle.kernel.specs.Steps.Allow.{host-unnamed, host-named}
+use Rattle.rules.specs.Steps.Allow.{host-unnamed, host-named}
 use borrow.Author.Needs.{needs}
 use Rattle.kernel.proofs.allow.is_socket_host.Statement.{statement}
 use Rattle.kernel.proofs.allow.is_socket_host.Tie as tie

@@ -1,6 +1,6 @@
 -- The length, the bytes and the two schemes, in the definition's order. Assumes nothing.
 use borrow.Author.Tests.{not-true, not-false}
-use Rattle.kernel.specs.Steps.Allow.{url-short, url-long, url-unseen, url-http, url-https}
+use Rattle.rules.specs.Steps.Allow.{url-short, url-long, url-unseen, url-http, url-https}
 use borrow.Author.Needs.{needs}
 use Rattle.kernel.proofs.allow.is_url.Statement.{statement}
 use Rattle.kernel.proofs.allow.is_url.Tie as tie

@@ -1,5 +1,5 @@
 -- The sum is the definition. Assumes nothing.
-use Rattle.kernel.specs.Steps.Answer.{packed-is}
+use Rattle.rules.specs.Steps.Answer.{packed-is}
 use borrow.Author.Needs.{needs}
 use Rattle.kernel.proofs.answer.pack.Statement.{statement}
 use Rattle.kernel.proofs.answer.pack.Tie as tie

@@ -1,8 +1,8 @@
 -- Refused, or passed on. Assumes nothing.
 use mathlib.Core.Path.{sym, _∙_}
 use borrow.Author.Tests.{not-true, not-false}
-use Rattle.kernel.specs.Steps.Desk.{tab-ready, the-tab}
-use Rattle.kernel.specs.Steps.Deliver.{document-refused, document-passed}
+use Rattle.rules.specs.Steps.Desk.{tab-ready, the-tab}
+use Rattle.rules.specs.Steps.Deliver.{document-refused, document-passed}
 use borrow.Author.Needs.{needs}
 use Rattle.kernel.proofs.deliver.document.Statement.{statement}
 use Rattle.kernel.proofs.deliver.document.Tie as tie

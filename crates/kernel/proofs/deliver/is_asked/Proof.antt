@@ -1,6 +1,6 @@
 -- The sender first, and then the mark. Assumes nothing.
-use Rattle.kernel.specs.Steps.Desk.{the-tab}
-use Rattle.kernel.specs.Steps.Deliver.{asked-other, asked-own}
+use Rattle.rules.specs.Steps.Desk.{the-tab}
+use Rattle.rules.specs.Steps.Deliver.{asked-other, asked-own}
 use native.Mathlib.Omega.{arith}
 use Rattle.kernel.proofs.deliver.is_asked.Statement.{statement}
 use Rattle.kernel.proofs.deliver.is_asked.Tie as tie

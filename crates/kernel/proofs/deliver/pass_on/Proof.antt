@@ -1,6 +1,6 @@
 -- One frame to the tab, and the mark is cleared. Assumes nothing.
-use Rattle.kernel.specs.Steps.Desk.{tab-ready}
-use Rattle.kernel.specs.Steps.Deliver.{passed}
+use Rattle.rules.specs.Steps.Desk.{tab-ready}
+use Rattle.rules.specs.Steps.Deliver.{passed}
 use native.Mathlib.Omega.{arith}
 use borrow.Author.Needs.{needs}
 use Rattle.kernel.proofs.deliver.pass_on.Statement.{statement}

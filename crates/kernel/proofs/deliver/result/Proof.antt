@@ -1,7 +1,7 @@
 -- Refused, or passed on. Assumes nothing.
 use borrow.Author.Tests.{not-true, not-false}
-use Rattle.kernel.specs.Steps.Desk.{tab-ready}
-use Rattle.kernel.specs.Steps.Deliver.{asked-waits, result-refused, result-passed}
+use Rattle.rules.specs.Steps.Desk.{tab-ready}
+use Rattle.rules.specs.Steps.Deliver.{asked-waits, result-refused, result-passed}
 use borrow.Author.Needs.{needs}
 use Rattle.kernel.proofs.deliver.result.Statement.{statement}
 use Rattle.kernel.proofs.deliver.result.Tie as tie

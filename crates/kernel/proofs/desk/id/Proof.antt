@@ -1,5 +1,5 @@
 -- The id is made of the seat and the tab's serial, which is one of the seat's opens. Assumes nothing.
-use Rattle.kernel.specs.Steps.Desk.{the-tab, id-fits, id-is}
+use Rattle.rules.specs.Steps.Desk.{the-tab, id-fits, id-is}
 use Rattle.kernel.proofs.desk.id.Statement.{statement}
 use Rattle.kernel.proofs.desk.id.Tie as tie
 

@@ -1,5 +1,5 @@
 -- The tab's process row counts one tab. Assumes nothing.
-use Rattle.kernel.specs.Steps.Desk.{the-tab, the-row, last-is}
+use Rattle.rules.specs.Steps.Desk.{the-tab, the-row, last-is}
 use Rattle.kernel.proofs.desk.is_last.Statement.{statement}
 use Rattle.kernel.proofs.desk.is_last.Tie as tie
 

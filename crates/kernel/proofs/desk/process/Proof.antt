@@ -1,6 +1,6 @@
 -- The number of the row that the tab hangs on. Assumes nothing.
 use Rattle.table.specs.Laws.Can.{number-small}
-use Rattle.kernel.specs.Steps.Desk.{the-tab, the-row, process-is}
+use Rattle.rules.specs.Steps.Desk.{the-tab, the-row, process-is}
 use native.Mathlib.Omega.{arith}
 use Rattle.kernel.proofs.desk.process.Statement.{statement}
 use Rattle.kernel.proofs.desk.process.Tie as tie

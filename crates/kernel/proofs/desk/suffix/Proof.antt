@@ -1,5 +1,5 @@
 -- The name of the row that the tab hangs on. Assumes nothing.
-use Rattle.kernel.specs.Steps.Desk.{the-tab, the-row, suffix-is}
+use Rattle.rules.specs.Steps.Desk.{the-tab, the-row, suffix-is}
 use Rattle.kernel.proofs.desk.suffix.Statement.{statement}
 use Rattle.kernel.proofs.desk.suffix.Tie as tie
 

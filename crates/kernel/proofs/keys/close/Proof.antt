@@ -2,10 +2,10 @@
 -- last tab of its process, two if not. Assumes nothing.
 use mathlib.Core.Path.{refl, sym, _∙_}
 use mathlib.Core.Bool.{true, false}
-use Rattle.kernel.specs.Kernel.{deskAt}
-use Rattle.kernel.specs.Steps.Desk.{tab-ready, seat-ready, chosen-ready, chosen-closable}
-use Rattle.kernel.specs.Laws.Seat.{close-modest}
-use Rattle.kernel.specs.Steps.Keys.{close-none, close-done}
+use Rattle.rules.specs.Rules.{deskAt}
+use Rattle.rules.specs.Steps.Desk.{tab-ready, seat-ready, chosen-ready, chosen-closable}
+use Rattle.rules.specs.Laws.Seat.{close-modest}
+use Rattle.rules.specs.Steps.Keys.{close-none, close-done}
 use native.Mathlib.Omega.{arith}
 use borrow.Author.Needs.{needs}
 use Rattle.kernel.proofs.keys.close.Statement.{statement}

@@ -1,6 +1,6 @@
 -- The three ranges of the rule, one after another. Assumes nothing.
 use mathlib.Core.Path.{sym, _∙_}
-use Rattle.kernel.specs.Steps.Keys.{plain-low, plain-return, plain-seen}
+use Rattle.rules.specs.Steps.Keys.{plain-low, plain-return, plain-seen}
 use borrow.Author.Needs.{needs}
 use Rattle.kernel.proofs.keys.is_plain.Statement.{statement}
 use Rattle.kernel.proofs.keys.is_plain.Tie as tie

@@ -1,7 +1,7 @@
 -- F1 to F10, F12, a plain key, or a bad one, in the rule's order. Assumes nothing.
 use mathlib.Core.Path.{sym, _∙_}
 use borrow.Author.Tests.{not-true, not-false}
-use Rattle.kernel.specs.Steps.Keys.{key-slot, key-select, key-close, key-bad, key-pass}
+use Rattle.rules.specs.Steps.Keys.{key-slot, key-select, key-close, key-bad, key-pass}
 use native.Mathlib.Omega.{arith}
 use borrow.Author.Needs.{needs}
 use Rattle.kernel.proofs.keys.key.Statement.{statement}

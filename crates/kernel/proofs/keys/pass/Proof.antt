@@ -1,6 +1,6 @@
 -- With no tab selected nothing happens; else one frame goes to the selected tab. Assumes nothing.
-use Rattle.kernel.specs.Steps.Desk.{tab-ready, seat-ready, chosen-ready}
-use Rattle.kernel.specs.Steps.Keys.{pass-none, pass-done}
+use Rattle.rules.specs.Steps.Desk.{tab-ready, seat-ready, chosen-ready}
+use Rattle.rules.specs.Steps.Keys.{pass-none, pass-done}
 use native.Mathlib.Omega.{arith}
 use borrow.Author.Needs.{needs}
 use Rattle.kernel.proofs.keys.pass.Statement.{statement}

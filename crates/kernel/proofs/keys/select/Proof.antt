@@ -2,8 +2,8 @@
 use mathlib.Core.Path.{sym, _∙_}
 use borrow.Author.Tests.{not-true, not-false}
 use Rattle.table.specs.Table.{view}
-use Rattle.kernel.specs.Steps.Desk.{seat-ready, suffix-short}
-use Rattle.kernel.specs.Steps.Keys.{select-none, select-done}
+use Rattle.rules.specs.Steps.Desk.{seat-ready, suffix-short}
+use Rattle.rules.specs.Steps.Keys.{select-none, select-done}
 use native.Mathlib.Omega.{arith}
 use borrow.Author.Needs.{needs}
 use Rattle.kernel.proofs.keys.select.Statement.{statement}

@@ -1,8 +1,8 @@
 -- Slot 0 shows nothing; the suffix of a live tab has at most 64 bytes. Assumes nothing.
 use Rattle.table.specs.Table.{view}
-use Rattle.kernel.specs.Kernel.{deskAt}
-use Rattle.kernel.specs.Steps.Desk.{shows-tab, suffix-short}
-use Rattle.kernel.specs.Steps.Keys.{bar-empty, bar-suffix}
+use Rattle.rules.specs.Rules.{deskAt}
+use Rattle.rules.specs.Steps.Desk.{shows-tab, suffix-short}
+use Rattle.rules.specs.Steps.Keys.{bar-empty, bar-suffix}
 use lib.ListN.{length}
 use mathlib.Core.Path.{ap}
 use native.Mathlib.Omega.{arith}

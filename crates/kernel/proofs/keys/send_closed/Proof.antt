@@ -1,8 +1,8 @@
 -- Stop tab, stop process if it was the last, and the bar of no slot, each where the one before it ends. Assumes nothing.
-use Rattle.kernel.specs.Kernel.{stopProcess}
-use Rattle.kernel.specs.Steps.Desk.{tab-ready, shows-none}
-use Rattle.kernel.specs.Laws.Sent.{size-only}
-use Rattle.kernel.specs.Steps.Keys.{closed-sent}
+use Rattle.rules.specs.Rules.{stopProcess}
+use Rattle.rules.specs.Steps.Desk.{tab-ready, shows-none}
+use Rattle.rules.specs.Laws.Sent.{size-only}
+use Rattle.rules.specs.Steps.Keys.{closed-sent}
 use native.Mathlib.Omega.{arith}
 use borrow.Author.Needs.{needs}
 use Rattle.kernel.proofs.keys.send_closed.Statement.{statement}

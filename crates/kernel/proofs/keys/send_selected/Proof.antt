@@ -1,6 +1,6 @@
 -- Render, and then the bar of the tab that is selected. Assumes nothing.
-use Rattle.kernel.specs.Steps.Desk.{tab-ready, shows-live}
-use Rattle.kernel.specs.Steps.Keys.{selected-sent}
+use Rattle.rules.specs.Steps.Desk.{tab-ready, shows-live}
+use Rattle.rules.specs.Steps.Keys.{selected-sent}
 use native.Mathlib.Omega.{arith}
 use borrow.Author.Needs.{needs}
 use Rattle.kernel.proofs.keys.send_selected.Statement.{statement}

@@ -1,7 +1,7 @@
 -- One action, or none. Assumes nothing.
 use borrow.Author.Tests.{not-true, not-false}
-use Rattle.kernel.specs.Kernel.{stopProcess}
-use Rattle.kernel.specs.Laws.Sent.{only-yes, only-no}
+use Rattle.rules.specs.Rules.{stopProcess}
+use Rattle.rules.specs.Laws.Sent.{only-yes, only-no}
 use borrow.Author.Needs.{needs}
 use Rattle.kernel.proofs.keys.send_stop.Statement.{statement}
 use Rattle.kernel.proofs.keys.send_stop.Tie as tie

@@ -1,5 +1,5 @@
 -- The question's number, if it is not 0; then the part is all of x exactly if it is as long. Assumes nothing.
-use Rattle.kernel.specs.Steps.Number.{book-refuses, book-part, book-takes}
+use Rattle.rules.specs.Steps.Number.{book-refuses, book-part, book-takes}
 use borrow.Author.Needs.{needs}
 use Rattle.kernel.proofs.open.book_number.Statement.{statement}
 use Rattle.kernel.proofs.open.book_number.Tie as tie

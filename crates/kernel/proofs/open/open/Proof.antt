@@ -1,7 +1,7 @@
 -- Refused by its number; an open whose number is 0 is one that the table takes. Assumes nothing.
 use mathlib.Core.Path.{sym, _∙_}
-use Rattle.kernel.specs.Laws.Open.{open-openable}
-use Rattle.kernel.specs.Steps.Open.{open-refused, open-done}
+use Rattle.rules.specs.Laws.Open.{open-openable}
+use Rattle.rules.specs.Steps.Open.{open-refused, open-done}
 use borrow.Author.Needs.{needs}
 use Rattle.kernel.proofs.open.open.Statement.{statement}
 use Rattle.kernel.proofs.open.open.Tie as tie

@@ -1,6 +1,6 @@
 -- What the book says, then 8 and 9. Assumes nothing.
 use Rattle.table.specs.Laws.Asked.{sound-seat, let-seat}
-use Rattle.kernel.specs.Steps.Number.{number-book, number-full, number-spent, number-none}
+use Rattle.rules.specs.Steps.Number.{number-book, number-full, number-spent, number-none}
 use borrow.Author.Needs.{needs}
 use Rattle.kernel.proofs.open.open_number.Statement.{statement}
 use Rattle.kernel.proofs.open.open_number.Tie as tie

@@ -8,9 +8,9 @@ use Rattle.table.specs.Table.{tabId}
 use Rattle.table.specs.Promises.{number-left}
 use Rattle.table.specs.Laws.Asked.{open-seat}
 use Rattle.table.specs.Laws.Can.{number-small, numbers-enough}
-use Rattle.kernel.specs.Kernel.{startProcess}
-use Rattle.kernel.specs.Laws.Sent.{size-only}
-use Rattle.kernel.specs.Steps.Open.{opening-size, open-sent}
+use Rattle.rules.specs.Rules.{startProcess}
+use Rattle.rules.specs.Laws.Sent.{size-only}
+use Rattle.rules.specs.Steps.Open.{opening-size, open-sent}
 use native.Mathlib.Omega.{arith}
 use borrow.Author.Needs.{needs}
 use Rattle.kernel.proofs.open.send_open.Statement.{statement}

@@ -1,9 +1,9 @@
 -- One action, or none. Assumes nothing.
 use borrow.Author.Tests.{not-true, not-false}
 use Rattle.names.specs.Names.{folded}
-use Rattle.kernel.specs.Kernel.{startProcess}
-use Rattle.kernel.specs.Laws.Sent.{only-yes, only-no}
-use Rattle.kernel.specs.Steps.Open.{process-sent}
+use Rattle.rules.specs.Rules.{startProcess}
+use Rattle.rules.specs.Laws.Sent.{only-yes, only-no}
+use Rattle.rules.specs.Steps.Open.{process-sent}
 use native.Mathlib.Omega.{arith}
 use borrow.Author.Needs.{needs}
 use Rattle.kernel.proofs.open.send_process.Statement.{statement}

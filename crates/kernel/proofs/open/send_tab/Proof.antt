@@ -1,6 +1,6 @@
 -- Three frames, each where the one before it ends. Assumes nothing.
 use Rattle.names.specs.Laws.Fold.{length-folded}
-use Rattle.kernel.specs.Steps.Open.{tab-sent}
+use Rattle.rules.specs.Steps.Open.{tab-sent}
 use native.Mathlib.Omega.{arith}
 use borrow.Author.Needs.{needs}
 use Rattle.kernel.proofs.open.send_tab.Statement.{statement}

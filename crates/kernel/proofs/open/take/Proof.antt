@@ -6,10 +6,10 @@ use Prim.Native.Nat.{ℕ}
 use borrow.Author.Tests.{eq-eqb, ne-eqb}
 use Rattle.table.specs.Table.{view, processWith}
 use Rattle.table.specs.Laws.Asked.{open-seat}
-use Rattle.kernel.specs.Inner.{newId}
-use Rattle.kernel.specs.Kernel.{deskAt}
-use Rattle.kernel.specs.Laws.Seat.{open-modest}
-use Rattle.kernel.specs.Steps.Open.{take-done}
+use Rattle.rules.specs.Inner.{newId}
+use Rattle.rules.specs.Rules.{deskAt}
+use Rattle.rules.specs.Laws.Seat.{open-modest}
+use Rattle.rules.specs.Steps.Open.{take-done}
 use native.Mathlib.Omega.{arith}
 use borrow.Author.Needs.{needs}
 use Rattle.kernel.proofs.open.take.Statement.{statement}

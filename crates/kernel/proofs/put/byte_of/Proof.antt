@@ -1,5 +1,5 @@
 -- A byte is folded or stays, as is asked. Assumes nothing.
-use Rattle.kernel.specs.Steps.Put.{byte-folded, byte-kept}
+use Rattle.rules.specs.Steps.Put.{byte-folded, byte-kept}
 use borrow.Author.Needs.{needs}
 use Rattle.kernel.proofs.put.byte_of.Statement.{statement}
 use Rattle.kernel.proofs.put.byte_of.Tie as tie

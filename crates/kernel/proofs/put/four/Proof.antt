@@ -1,5 +1,5 @@
 -- The four bytes of a number below 2 to the 32nd. Assumes nothing.
-use Rattle.kernel.specs.Steps.Put.{four-is}
+use Rattle.rules.specs.Steps.Put.{four-is}
 use borrow.Author.Needs.{needs}
 use Rattle.kernel.proofs.put.four.Statement.{statement}
 use Rattle.kernel.proofs.put.four.Tie as tie

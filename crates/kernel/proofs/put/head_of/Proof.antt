@@ -1,5 +1,5 @@
 -- Party and tag are bytes; id and size are four bytes each. Assumes nothing.
-use Rattle.kernel.specs.Steps.Put.{head-is}
+use Rattle.rules.specs.Steps.Put.{head-is}
 use native.Mathlib.Omega.{arith}
 use borrow.Author.Needs.{needs}
 use Rattle.kernel.proofs.put.head_of.Statement.{statement}

@@ -2,7 +2,7 @@
 -- Assumes nothing.
 use Prim.Native.Nat.{_-_}
 use lib.ListN.{length}
-use Rattle.kernel.specs.Steps.Put.{Written, written-none, written-more, written-all}
+use Rattle.rules.specs.Steps.Put.{Written, written-none, written-more, written-all}
 use native.Mathlib.Omega.{arith}
 use borrow.Author.Needs.{needs}
 use Rattle.kernel.proofs.put.put.Statement.{statement}

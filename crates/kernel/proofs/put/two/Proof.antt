@@ -1,5 +1,5 @@
 -- The two bytes of a number below 65,536. Assumes nothing.
-use Rattle.kernel.specs.Steps.Put.{two-is}
+use Rattle.rules.specs.Steps.Put.{two-is}
 use borrow.Author.Needs.{needs}
 use Rattle.kernel.proofs.put.two.Statement.{statement}
 use Rattle.kernel.proofs.put.two.Tie as tie

@@ -1,5 +1,5 @@
 -- The number and the part are the definition's. Assumes nothing.
-use Rattle.kernel.specs.Steps.Read.{delivered-is}
+use Rattle.rules.specs.Steps.Read.{delivered-is}
 use borrow.Author.Needs.{needs}
 use Rattle.kernel.proofs.read.delivery.Statement.{statement}
 use Rattle.kernel.proofs.read.delivery.Tie as tie

@@ -1,5 +1,5 @@
 -- The three tests of a size, in the definition's order. Assumes nothing.
-use Rattle.kernel.specs.Steps.Read.{sized-cut, sized-over, sized-is}
+use Rattle.rules.specs.Steps.Read.{sized-cut, sized-over, sized-is}
 use borrow.Author.Needs.{needs}
 use Rattle.kernel.proofs.read.is_sized.Statement.{statement}
 use Rattle.kernel.proofs.read.is_sized.Tie as tie

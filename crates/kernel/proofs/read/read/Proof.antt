@@ -1,6 +1,6 @@
 -- Sized bytes have a head, so that party, id and tag are there to be read. Assumes nothing.
 use borrow.Author.Tests.{not-true, not-false}
-use Rattle.kernel.specs.Steps.Read.{sized-head, reading-unfit, reading-is}
+use Rattle.rules.specs.Steps.Read.{sized-head, reading-unfit, reading-is}
 use native.Mathlib.Omega.{arith}
 use borrow.Author.Needs.{needs}
 use Rattle.kernel.proofs.read.read.Statement.{statement}

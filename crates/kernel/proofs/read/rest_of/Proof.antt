@@ -1,5 +1,5 @@
 -- The part is the definition's. Assumes nothing.
-use Rattle.kernel.specs.Steps.Read.{rest-is}
+use Rattle.rules.specs.Steps.Read.{rest-is}
 use borrow.Author.Needs.{needs}
 use Rattle.kernel.proofs.read.rest_of.Statement.{statement}
 use Rattle.kernel.proofs.read.rest_of.Tie as tie

@@ -1,5 +1,5 @@
 -- The tag decides, and for a key and a mouse the size; the definition asks in the same order. Assumes nothing.
-use Rattle.kernel.specs.Steps.Read.{key-unfit, key, mouse-unfit, mouse, opens, seat-unknown}
+use Rattle.rules.specs.Steps.Read.{key-unfit, key, mouse-unfit, mouse, opens, seat-unknown}
 use borrow.Author.Needs.{needs}
 use Rattle.kernel.proofs.read.seat_event.Statement.{statement}
 use Rattle.kernel.proofs.read.seat_event.Tie as tie

@@ -1,6 +1,6 @@
 -- The party decides; a result and a document have the same tag and the same least size. Assumes nothing.
 use borrow.Author.Tests.{not-true, not-false}
-use Rattle.kernel.specs.Steps.Read.{by-seat, by-tab, by-unfit, by-process, by-network, by-unknown, delivered-fits}
+use Rattle.rules.specs.Steps.Read.{by-seat, by-tab, by-unfit, by-process, by-network, by-unknown, delivered-fits}
 use native.Mathlib.Omega.{arith}
 use borrow.Author.Needs.{needs}
 use Rattle.kernel.proofs.read.sent_event.Statement.{statement}

@@ -1,5 +1,5 @@
 -- The size decides; the port and the host are the definition's. Assumes nothing.
-use Rattle.kernel.specs.Steps.Read.{socket-unfit, socket}
+use Rattle.rules.specs.Steps.Read.{socket-unfit, socket}
 use borrow.Author.Needs.{needs}
 use Rattle.kernel.proofs.read.socket_event.Statement.{statement}
 use Rattle.kernel.proofs.read.socket_event.Tie as tie

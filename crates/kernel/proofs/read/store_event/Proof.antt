@@ -1,5 +1,5 @@
 -- A payload without its first byte is shorter than any length says; else that byte decides. Assumes nothing.
-use Rattle.kernel.specs.Steps.Read.{store-unfit, store}
+use Rattle.rules.specs.Steps.Read.{store-unfit, store}
 use mathlib.Core.Path.{refl}
 use native.Mathlib.Omega.{arith}
 use borrow.Author.Needs.{needs}

@@ -1,5 +1,5 @@
 -- The tag decides, and for a display the size; sockets and stores are read by functions of their own. Assumes nothing.
-use Rattle.kernel.specs.Steps.Read.{display-unfit, display, url, retrieve, tab-unknown}
+use Rattle.rules.specs.Steps.Read.{display-unfit, display, url, retrieve, tab-unknown}
 use borrow.Author.Needs.{needs}
 use Rattle.kernel.proofs.read.tab_event.Statement.{statement}
 use Rattle.kernel.proofs.read.tab_event.Tie as tie

@@ -1,8 +1,8 @@
 -- The ten bytes, and then the payload's three parts, each where the one before it ends. Assumes nothing.
 use mathlib.Core.Path.{ap, _∙_}
 use lib.ListN.{length}
-use Rattle.kernel.specs.Laws.Frame.{length-head}
-use Rattle.kernel.specs.Steps.Send.{send-one}
+use Rattle.rules.specs.Laws.Frame.{length-head}
+use Rattle.rules.specs.Steps.Send.{send-one}
 use native.Mathlib.Omega.{arith}
 use borrow.Author.Needs.{needs}
 use Rattle.kernel.proofs.send.send.Statement.{statement}

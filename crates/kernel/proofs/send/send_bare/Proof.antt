@@ -1,6 +1,6 @@
 -- All three parts are empty. Assumes nothing.
-use Rattle.kernel.specs.Laws.Sent.{sent-payload}
-use Rattle.kernel.specs.Steps.Send.{raw-alone}
+use Rattle.rules.specs.Laws.Sent.{sent-payload}
+use Rattle.rules.specs.Steps.Send.{raw-alone}
 use mathlib.Core.List.{[]}
 use borrow.Author.Needs.{needs}
 use Rattle.kernel.proofs.send.send_bare.Statement.{statement}

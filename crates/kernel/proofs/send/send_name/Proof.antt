@@ -1,6 +1,6 @@
 -- Nothing follows the name. Assumes nothing.
-use Rattle.kernel.specs.Laws.Sent.{sent-payload}
-use Rattle.kernel.specs.Steps.Send.{name-last}
+use Rattle.rules.specs.Laws.Sent.{sent-payload}
+use Rattle.rules.specs.Steps.Send.{name-last}
 use borrow.Author.Needs.{needs}
 use Rattle.kernel.proofs.send.send_name.Statement.{statement}
 use Rattle.kernel.proofs.send.send_name.Tie as tie

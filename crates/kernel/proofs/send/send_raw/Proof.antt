@@ -1,6 +1,6 @@
 -- The name and what follows it are empty. Assumes nothing.
-use Rattle.kernel.specs.Laws.Sent.{sent-payload}
-use Rattle.kernel.specs.Steps.Send.{raw-alone}
+use Rattle.rules.specs.Laws.Sent.{sent-payload}
+use Rattle.rules.specs.Steps.Send.{raw-alone}
 use borrow.Author.Needs.{needs}
 use Rattle.kernel.proofs.send.send_raw.Statement.{statement}
 use Rattle.kernel.proofs.send.send_raw.Tie as tie

@@ -1,5 +1,5 @@
 -- A key, the mouse or an open: each has its function and its rule. Assumes nothing.
-use Rattle.kernel.specs.Steps.Serve.{part-small, seat-key, seat-mouse, seat-open}
+use Rattle.rules.specs.Steps.Serve.{part-small, seat-key, seat-mouse, seat-open}
 use borrow.Author.Needs.{needs}
 use Rattle.kernel.proofs.serve.from_seat.Statement.{statement}
 use Rattle.kernel.proofs.serve.from_seat.Tie as tie

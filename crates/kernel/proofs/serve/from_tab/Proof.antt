@@ -1,6 +1,6 @@
 -- Each of a tab's messages has its function and its rule. Assumes nothing.
-use Rattle.kernel.specs.Steps.Serve.{part-small, host-small, store-small, tab-display, tab-socket, tab-url, tab-store}
-use Rattle.kernel.specs.Steps.Serve.{tab-retrieve}
+use Rattle.rules.specs.Steps.Serve.{part-small, host-small, store-small, tab-display, tab-socket, tab-url, tab-store}
+use Rattle.rules.specs.Steps.Serve.{tab-retrieve}
 use borrow.Author.Needs.{needs}
 use Rattle.kernel.proofs.serve.from_tab.Statement.{statement}
 use Rattle.kernel.proofs.serve.from_tab.Tie as tie

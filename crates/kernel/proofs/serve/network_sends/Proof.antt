@@ -1,6 +1,6 @@
 -- A network id that is not 0 is refused 4, and a document for no live tab 10. Assumes nothing.
 use Rattle.table.specs.Laws.Table.{table-facts}
-use Rattle.kernel.specs.Steps.Serve.{part-small, tab-there, network-other, network-nowhere, network-served}
+use Rattle.rules.specs.Steps.Serve.{part-small, tab-there, network-other, network-nowhere, network-served}
 use borrow.Author.Needs.{needs}
 use Rattle.kernel.proofs.serve.network_sends.Statement.{statement}
 use Rattle.kernel.proofs.serve.network_sends.Tie as tie

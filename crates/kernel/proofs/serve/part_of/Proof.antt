@@ -1,5 +1,5 @@
 -- The bytes from where a part begins, as many as it has. Assumes nothing.
-use Rattle.kernel.specs.Steps.Serve.{part-is}
+use Rattle.rules.specs.Steps.Serve.{part-is}
 use borrow.Author.Needs.{needs}
 use Rattle.kernel.proofs.serve.part_of.Statement.{statement}
 use Rattle.kernel.proofs.serve.part_of.Tie as tie

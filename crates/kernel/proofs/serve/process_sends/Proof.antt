@@ -1,6 +1,6 @@
 -- A process that is not live is refused 4, and a result for no live tab 10. Assumes nothing.
 use Rattle.table.specs.Laws.Table.{table-facts}
-use Rattle.kernel.specs.Steps.Serve.{part-small, tab-there, process-dead, process-nowhere, process-served}
+use Rattle.rules.specs.Steps.Serve.{part-small, tab-there, process-dead, process-nowhere, process-served}
 use borrow.Author.Needs.{needs}
 use Rattle.kernel.proofs.serve.process_sends.Statement.{statement}
 use Rattle.kernel.proofs.serve.process_sends.Tie as tie

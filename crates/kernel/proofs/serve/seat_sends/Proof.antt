@@ -1,7 +1,7 @@
 -- A seat that is not let is refused. Assumes nothing.
 use borrow.Author.Tests.{not-true, not-false}
 use Rattle.table.specs.Laws.Table.{table-facts}
-use Rattle.kernel.specs.Steps.Serve.{seat-there, seat-unlet, seat-served}
+use Rattle.rules.specs.Steps.Serve.{seat-there, seat-unlet, seat-served}
 use borrow.Author.Needs.{needs}
 use Rattle.kernel.proofs.serve.seat_sends.Statement.{statement}
 use Rattle.kernel.proofs.serve.seat_sends.Tie as tie

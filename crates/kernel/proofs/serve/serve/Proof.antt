@@ -1,5 +1,5 @@
 -- Each sender has its function. Assumes nothing.
-use Rattle.kernel.specs.Steps.Serve.{event-is}
+use Rattle.rules.specs.Steps.Serve.{event-is}
 use borrow.Author.Needs.{needs}
 use Rattle.kernel.proofs.serve.serve.Statement.{statement}
 use Rattle.kernel.proofs.serve.serve.Tie as tie

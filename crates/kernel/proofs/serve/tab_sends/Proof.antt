@@ -1,6 +1,6 @@
 -- A tab that is not live is refused. Assumes nothing.
 use Rattle.table.specs.Laws.Table.{table-facts}
-use Rattle.kernel.specs.Steps.Serve.{tab-there, tab-dead, tab-served}
+use Rattle.rules.specs.Steps.Serve.{tab-there, tab-dead, tab-served}
 use borrow.Author.Needs.{needs}
 use Rattle.kernel.proofs.serve.tab_sends.Statement.{statement}
 use Rattle.kernel.proofs.serve.tab_sends.Tie as tie

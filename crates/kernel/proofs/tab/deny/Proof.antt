@@ -1,6 +1,6 @@
 -- One error action to the tab. Assumes nothing.
-use Rattle.kernel.specs.Steps.Desk.{tab-ready}
-use Rattle.kernel.specs.Steps.Tab.{deny-done}
+use Rattle.rules.specs.Steps.Desk.{tab-ready}
+use Rattle.rules.specs.Steps.Tab.{deny-done}
 use native.Mathlib.Omega.{arith}
 use borrow.Author.Needs.{needs}
 use Rattle.kernel.proofs.tab.deny.Statement.{statement}

@@ -1,6 +1,6 @@
 -- The tab is selected, and its seat's screen paints; or it is not, and nothing happens. Assumes nothing.
-use Rattle.kernel.specs.Steps.Desk.{tab-ready, the-seat, seat-lt}
-use Rattle.kernel.specs.Steps.Tab.{display-none, display-done}
+use Rattle.rules.specs.Steps.Desk.{tab-ready, the-seat, seat-lt}
+use Rattle.rules.specs.Steps.Tab.{display-none, display-done}
 use native.Mathlib.Omega.{arith}
 use borrow.Author.Needs.{needs}
 use Rattle.kernel.proofs.tab.display.Statement.{statement}

@@ -1,8 +1,8 @@
 -- The URL first, and then the mark. Assumes nothing.
 use mathlib.Core.Path.{sym, _∙_}
 use borrow.Author.Tests.{not-true, not-false}
-use Rattle.kernel.specs.Steps.Desk.{the-tab}
-use Rattle.kernel.specs.Steps.Tab.{may-not-fetch, may-fetch}
+use Rattle.rules.specs.Steps.Desk.{the-tab}
+use Rattle.rules.specs.Steps.Tab.{may-not-fetch, may-fetch}
 use borrow.Author.Needs.{needs}
 use Rattle.kernel.proofs.tab.may_fetch.Statement.{statement}
 use Rattle.kernel.proofs.tab.may_fetch.Tie as tie

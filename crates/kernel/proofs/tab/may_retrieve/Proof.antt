@@ -1,7 +1,7 @@
 -- The domain first, and then the mark. Assumes nothing.
 use borrow.Author.Tests.{not-true, not-false}
-use Rattle.kernel.specs.Steps.Desk.{the-tab}
-use Rattle.kernel.specs.Steps.Tab.{may-not-retrieve, may-retrieve}
+use Rattle.rules.specs.Steps.Desk.{the-tab}
+use Rattle.rules.specs.Steps.Tab.{may-not-retrieve, may-retrieve}
 use borrow.Author.Needs.{needs}
 use Rattle.kernel.proofs.tab.may_retrieve.Statement.{statement}
 use Rattle.kernel.proofs.tab.may_retrieve.Tie as tie

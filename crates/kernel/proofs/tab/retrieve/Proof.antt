@@ -2,10 +2,10 @@
 use mathlib.Core.Path.{ap, _∙_}
 use lib.ListN.{length}
 use borrow.Author.Tests.{not-true, not-false}
-use Rattle.kernel.specs.Laws.Frame.{length-be}
-use Rattle.kernel.specs.Steps.Desk.{tab-ready}
-use Rattle.kernel.specs.Steps.Send.{name-size}
-use Rattle.kernel.specs.Steps.Tab.{retrieve-short, retrieve-quiet, retrieve-denied, retrieve-done}
+use Rattle.rules.specs.Laws.Frame.{length-be}
+use Rattle.rules.specs.Steps.Desk.{tab-ready}
+use Rattle.rules.specs.Steps.Send.{name-size}
+use Rattle.rules.specs.Steps.Tab.{retrieve-short, retrieve-quiet, retrieve-denied, retrieve-done}
 use native.Mathlib.Omega.{arith}
 use borrow.Author.Needs.{needs}
 use Rattle.kernel.proofs.tab.retrieve.Statement.{statement}

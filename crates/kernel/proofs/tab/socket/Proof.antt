@@ -1,8 +1,8 @@
 -- Allowed or denied by port, host and the tab's suffix. Assumes nothing.
 use borrow.Author.Tests.{not-true, not-false}
-use Rattle.kernel.specs.Steps.Desk.{tab-ready}
-use Rattle.kernel.specs.Steps.Send.{name-size}
-use Rattle.kernel.specs.Steps.Tab.{socket-denied, socket-done}
+use Rattle.rules.specs.Steps.Desk.{tab-ready}
+use Rattle.rules.specs.Steps.Send.{name-size}
+use Rattle.rules.specs.Steps.Tab.{socket-denied, socket-done}
 use native.Mathlib.Omega.{arith}
 use borrow.Author.Needs.{needs}
 use Rattle.kernel.proofs.tab.socket.Statement.{statement}

@@ -1,10 +1,10 @@
 -- Denied, or passed to the tab's process, its domain folded. Assumes nothing.
 use borrow.Author.Tests.{not-true, not-false}
-use Rattle.kernel.specs.Steps.Desk.{tab-ready}
+use Rattle.rules.specs.Steps.Desk.{tab-ready}
 use mathlib.Core.List.{[], _∷_}
 use lib.ListN.{length}
-use Rattle.kernel.specs.Steps.Send.{full-size}
-use Rattle.kernel.specs.Steps.Tab.{store-denied, store-done}
+use Rattle.rules.specs.Steps.Send.{full-size}
+use Rattle.rules.specs.Steps.Tab.{store-denied, store-done}
 use native.Mathlib.Omega.{arith}
 use borrow.Author.Needs.{needs}
 use Rattle.kernel.proofs.tab.store.Statement.{statement}

@@ -1,7 +1,7 @@
 -- Denied, or fetched with the mark set. Assumes nothing.
 use borrow.Author.Tests.{not-true, not-false}
-use Rattle.kernel.specs.Steps.Desk.{tab-ready}
-use Rattle.kernel.specs.Steps.Tab.{fetch-quiet, url-denied, url-done}
+use Rattle.rules.specs.Steps.Desk.{tab-ready}
+use Rattle.rules.specs.Steps.Tab.{fetch-quiet, url-denied, url-done}
 use native.Mathlib.Omega.{arith}
 use borrow.Author.Needs.{needs}
 use Rattle.kernel.proofs.tab.url.Statement.{statement}

@@ -1,0 +1,87 @@
+-- What a rule sees and what it answers. A rule looks at one seat's desk; it answers a number, actions, and what becomes of the
+-- seat's tabs. Assumes nothing.
+use Prim.Native.Nat.{ℕ, _+_}
+use mathlib.Core.Bool.{Bool}
+use mathlib.Core.List.{List, []}
+use lib.Dec.{eqb}
+use Rattle.table.specs.Table.{View, view, selected, opens, serial, row, number, tabs, last, tabId, live, ownerAt, nameOf}
+use Rattle.table.specs.Table.{processWith, liveTabs, waits, opened, picked, closed, marked, unmarked}
+use Rattle.table.specs.declared.mark.Mark.{Mark}
+use Rattle.rules.specs.Rule.Frame.{Frame}
+
+-- ---- a desk
+
+pub record Desk : Type 0 where
+  pub seat : ℕ
+  pub owner : ℕ
+  -- the selected slot, 0 for none
+  pub chosen : ℕ
+  pub opens : ℕ
+  -- how many tabs are live
+  pub tabs : ℕ
+  -- of the tab in a slot: whether it is live, its id, what it waits for, and its process's suffix and number
+  pub live : ℕ → Bool
+  pub id : ℕ → ℕ
+  pub waits : ℕ → Mark → Bool
+  pub suffix : ℕ → List ℕ
+  pub process : ℕ → ℕ
+  -- "if it was the last tab" of its process
+  pub last : ℕ → Bool
+  -- "If no live process has this owner and suffix"
+  pub new : List ℕ → Bool
+  -- "last number + 1"
+  pub next : ℕ
+
+-- the desk of a seat of a table
+unfoldable pub desk : View → ℕ → Desk
+desk v s =
+    record {
+      seat = s;
+      owner = ownerAt v s;
+      chosen = v (selected s);
+      opens = v (opens s);
+      tabs = liveTabs v s;
+      live = λ k. live v s k;
+      id = λ k. tabId s (v (serial s k));
+      waits = λ k m. waits v s k m;
+      suffix = λ k. nameOf v (v (row s k));
+      process = λ k. v (number (v (row s k)));
+      last = λ k. eqb (v (tabs (v (row s k)))) 1;
+      new = λ x. eqb (processWith v (ownerAt v s) x) 0;
+      next = v last + 1;
+    }
+
+abbrev pub deskAt : List ℕ → ℕ → Desk
+deskAt t s = desk (view t) s
+
+-- ---- a reply
+
+-- what becomes of a seat's tabs: nothing; a tab with this suffix; the tab in this slot is selected; the selected one is
+-- closed; the tab in this slot waits from now on, or no more
+pub data Change : Type 0 where
+  stay : Change
+  openTab : List ℕ → Change
+  selectTab : ℕ → Change
+  closeTab : Change
+  setMark clearMark : ℕ → Mark → Change
+
+unfoldable pub changed : List ℕ → ℕ → Change → List ℕ
+changed t s stay = t
+changed t s (openTab x) = opened t s x
+changed t s (selectTab k) = picked t s k
+changed t s closeTab = closed t s
+changed t s (setMark k m) = marked t s k m
+changed t s (clearMark k m) = unmarked t s k m
+
+pub record Reply : Type 0 where
+  pub number : ℕ
+  pub actions : List Frame
+  pub change : Change
+
+-- "A refusal reports both counts 0" and changes nothing
+unfoldable pub refuse : ℕ → Reply
+refuse n = record { number = n; actions = []; change = stay }
+
+-- "0 is done"
+unfoldable pub reply : List Frame → Change → Reply
+reply l c = record { number = 0; actions = l; change = c }
