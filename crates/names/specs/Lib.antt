@@ -10,6 +10,7 @@
 --   Walk    how the code reads a name
 --   Steps   equations for this crate's proofs
 --   Text    an example's bytes
+--   Forwarder  the order book of the worked history, and what it says
 pub mod Base
 mod Rule
 mod Walk
@@ -19,3 +20,4 @@ pub mod Laws
 pub mod Steps
 pub mod Text
 pub mod Marked
+pub mod Forwarder

@@ -5,6 +5,7 @@
 --   Asked    what the functions ask of their callers, from soundness and a test
 --   Find     what a look-up of a slot or a process row gives
 --   Tab      tab-of, tab-found: ids and the tabs they name
+--   First    first-left, first-slot: a seat without tabs
 --   Fresh    fresh-tenant, fresh-separate, fresh-fields, fresh-sound
 --   Opened   opened-joins, opened-renews: every field after an open; opened-sound
 --   Closed   closed-leaves, closed-ends: every field after a close; closed-sound
@@ -53,6 +54,7 @@ pub mod Asked
 pub mod Can
 pub mod Blank
 pub mod Fresh
+pub mod First
 pub mod Opened
 pub mod Closed
 pub mod Waited

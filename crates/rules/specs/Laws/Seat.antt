@@ -2,20 +2,21 @@
 use mathlib.Core.Bool.{not}
 use mathlib.Core.Logic.{_≢_}
 use mathlib.Core.List.{List, [], _∷_, _++_}
-use Prim.Native.Nat.{ℕ, _+_, _-_, _≤_}
+use Prim.Native.Nat.{ℕ, _-_, _≤_}
 use native.Mathlib.Omega.{arith}
 use lib.ListN.{length, length-append}
 use lib.Dec.{eqb}
 use borrow.Author.Tests.{eqb-false, not-false}
 use Rattle.names.specs.Base.{within}
 use Rattle.names.specs.Names.{folded, soundBook}
+use Rattle.names.specs.Laws.Bools.{cases}
 use Rattle.names.specs.Laws.Fold.{length-folded}
-use Rattle.table.specs.Table.{tenant, mostOpens, view, live, row, tabId}
+use Rattle.table.specs.Table.{tenant, mostOpens, view, live, row}
 use Rattle.table.specs.Laws.Asked.{let-seat}
 use Rattle.table.specs.Laws.Find.{name-short}
 use Rattle.table.specs.Promises.{open-sound, pick-sound, close-sound}
 use Rattle.rules.specs.Rule.Frame.{Frame, be}
-use Rattle.rules.specs.Rule.Action.{bar, go, key, startTab, stopTab}
+use Rattle.rules.specs.Rule.Action.{bar, go, key, startTab}
 use Rattle.rules.specs.Rule.Desk.{Desk, desk, deskAt, changed, openTab, selectTab, closeTab}
 use Rattle.rules.specs.Rule.Seat.{only, acceptable, openActions, openRule, selectRule, closeActions, closeRule}
 use Rattle.rules.specs.Rule.Seat.{passRule, plain, keyRule}
@@ -45,9 +46,8 @@ open-modest d i x h =
 pub close-modest : (d : Desk) (k : ℕ) → Modest 4 4106 (closeActions d k)
 unfolding closeActions only
 close-modest d k =
-    either (λ (l : List Frame). Modest 4 4106 (stopTab (d .id k) ∷ (l ++ (bar (d .seat) [] ∷ []))))
-    (d .last k) _ _
-    (λ _. record { few = omega arith; short = omega arith }) (λ _. record { few = omega arith; short = omega arith })
+    cases (d .last k) (λ e. rw e (record { few = omega arith; short = omega arith }))
+    (λ e. rw e (record { few = omega arith; short = omega arith }))
 
 -- ---- rules
 
@@ -62,8 +62,9 @@ module _ (t : List ℕ) (s : ℕ) (l : view t (tenant s) ≢ 0) where
       (λ n. either (OrderlyAt t s) (eqb (d .opens) mostOpens) _ _ (λ _. no-reply t s 9 (omega arith))
       (λ m.
       let ok = not-false (acceptable b x) a in
-      let z = open-modest d (tabId s (d .opens + 1)) x (acceptable-suffix b x ok .size .high) in
-      ok-reply t s _ (openTab x) (z .few) (z .short) (λ e. open-sound t s x (openable t b x s e l ok n m))))))
+      let q = acceptable-suffix b x ok .size .high in
+      ok-reply t s _ (openTab x) (open-modest d _ x q .few) (open-modest d _ x q .short)
+      (λ e. open-sound t s x (openable t b x s e l ok n m))))))
 
   select-orderly : (k : ℕ) → OrderlyAt t s (selectRule (deskAt t s) k)
   unfolding selectRule desk changed

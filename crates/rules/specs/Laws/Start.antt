@@ -1,4 +1,5 @@
--- Every outcome of a start: 0 with a sound table, or 2 or 6 with the table as it was; never an action. Assumes nothing.
+-- Every outcome of a start: 0 with a fresh table of a sound book, or 2 or 6 with the table as it was; never an action. Assumes
+-- nothing.
 use mathlib.Core.Path.{_≡_, refl, ap, _∙_}
 use mathlib.Core.Bool.{true, not}
 use mathlib.Core.Logic.{_≢_, _⊎_, inl, inr}
@@ -7,34 +8,56 @@ use Prim.Native.Nat.{ℕ}
 use native.Mathlib.Omega.{arith}
 use lib.ListN.{length}
 use lib.Dec.{eqb}
-use borrow.Author.Tests.{not-false}
+use borrow.Author.Tests.{eqb-false, not-true, not-false}
 use Rattle.names.specs.Names.{soundBook}
-use Rattle.table.specs.Table.{tableBytes, soundTable}
+use Rattle.table.specs.Table.{tableBytes, soundTable, fresh}
 use Rattle.table.specs.Promises as table
 use Rattle.rules.specs.Rule.Frame.{Frame, frames}
 use Rattle.rules.specs.Rule.Step.{Outcome, refused, startOf, packed, answer, Started}
 use Rattle.rules.specs.Laws.Cases.{either}
 
-pub record Starts (t : List ℕ) (x : Outcome) : Type 0 where
+pub record Starts (t b : List ℕ) (x : Outcome) : Type 0 where
   pub number= : (x .number ≡ 0) ⊎ ((x .number ≡ 2) ⊎ (x .number ≡ 6))
   pub quiet : x .actions ≡ []
   pub refusal : x .number ≢ 0 → x .table ≡ t
   pub sound : x .number ≡ 0 → soundTable (x .table) ≡ true
+  pub book : x .number ≡ 0 → soundBook b ≡ true
+  pub fresh= : x .number ≡ 0 → x .table ≡ fresh b
+  pub long : length t ≡ tableBytes → x .number ≢ 2
 
 module _ (t b : List ℕ) where
-  pub start-starts : Starts t (startOf t b)
-  unfolding startOf refused
+  -- refused with a number
+  turned : (n : ℕ) → (n ≡ 2) ⊎ (n ≡ 6) → n ≢ 0 → (length t ≡ tableBytes → n ≢ 2) → Starts t b (refused n t)
+  unfolding refused
+  turned n e h l =
+      record {
+        number= = inr e;
+        quiet = refl;
+        refusal = λ _. refl;
+        sound = λ z. absurd (h z);
+        book = λ z. absurd (h z);
+        fresh= = λ z. absurd (h z);
+        long = l;
+      }
+
+  pub start-starts : Starts t b (startOf t b)
+  unfolding startOf
   start-starts =
-      either (Starts t) (not (eqb (length t) tableBytes)) _ _
-      (λ _. record { number= = inr (inl refl); quiet = refl; refusal = λ _. refl; sound = λ h. absurd (omega arith) })
-      (λ _. either (Starts t) (not (soundBook b)) _ _
-      (λ _. record { number= = inr (inr refl); quiet = refl; refusal = λ _. refl; sound = λ h. absurd (omega arith) })
+      either (Starts t b) (not (eqb (length t) tableBytes)) _ _
       (λ h.
+      turned 2 (inl refl) (λ z. omega arith)
+      (λ l _. eqb-false (length t) tableBytes (not-true (eqb (length t) tableBytes) h) l))
+      (λ _. either (Starts t b) (not (soundBook b)) _ _ (λ _. turned 6 (inr refl) (λ z. omega arith) (λ _ z. omega arith))
+      (λ h.
+      let k = not-false (soundBook b) h in
       record {
         number= = inl refl;
         quiet = refl;
         refusal = λ f. absurd (f refl);
-        sound = λ _. table.start-sound b (not-false (soundBook b) h);
+        sound = λ _. table.start-sound b k;
+        book = λ _. k;
+        fresh= = λ _. refl;
+        long = λ _ z. omega arith;
       }))
 
   -- the answer is the number alone

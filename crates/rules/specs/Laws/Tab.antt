@@ -16,7 +16,7 @@ use Rattle.table.specs.declared.mark.Mark.the-variants.{Cookie, Document}
 use Rattle.table.specs.Table.{view, soundTable, live, waits}
 use Rattle.table.specs.Promises.{mark-sound, unmark-sound}
 use Rattle.rules.specs.Rule.Frame.{Frame, frames}
-use Rattle.rules.specs.Rule.Action.{document, cookie, set, get, fetch, openSocket}
+use Rattle.rules.specs.Rule.Action.{set, get, fetch, openSocket}
 use Rattle.rules.specs.Rule.Desk.{Desk, desk, deskAt, refuse, reply, changed, Change, stay, setMark, clearMark}
 use Rattle.rules.specs.Rule.Allow.{cookieDomain, isUrl}
 use Rattle.rules.specs.Rule.Tab.{ask, displayRule, socketRule, urlRule, storeRule, retrieveRule, resultRule}
@@ -124,10 +124,8 @@ module _ (t : List ℕ) (s k : ℕ) (there : live (view t) s k ≡ true) where
 
   pub result-orderly : (n : ℕ) (x : List ℕ) → length x ≤ 4096 → OrderlyAt t s (resultRule (deskAt t s) n k x)
   unfolding resultRule
-  result-orderly n x h =
-      let d = deskAt t s in passed-orderly (eqb (d .process k) n && d .waits k Cookie) (cookie (d .id k) x) Cookie h
+  result-orderly n x h = let d = deskAt t s in passed-orderly (eqb (d .process k) n && d .waits k Cookie) _ _ h
 
   pub document-orderly : (x : List ℕ) → length x ≤ 4096 → OrderlyAt t s (documentRule (deskAt t s) k x)
   unfolding documentRule
-  document-orderly x h =
-      let d = deskAt t s in passed-orderly (d .waits k Document) (document (d .id k) x) Document h
+  document-orderly x h = passed-orderly (deskAt t s .waits k Document) _ _ h

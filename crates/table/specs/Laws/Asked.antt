@@ -11,7 +11,7 @@ use lib.Dec.{eqb}
 use borrow.Author.Tests.{eqb-false}
 use Rattle.names.specs.Base.{within}
 use Rattle.names.specs.Laws.Bools.{Range, cases, within-at}
-use Rattle.table.specs.Rule.View.{there, tenant, selected, opens, serial, row}
+use Rattle.table.specs.Rule.View.{there, tenant, selected, opens, serial, row, waiting}
 use Rattle.table.specs.Rule.Layout.{mostOpens, view}
 use Rattle.table.specs.Rule.Held.{SeatOf, TabOf, RowOf}
 use Rattle.table.specs.Rule.Word.{used}
@@ -45,6 +45,11 @@ live-serial {t} {s} {k} w =
     let r = live-there t s k (w .there) in
     let f = table-facts t (w .sound) .shows in
     le-trans (f .serials-fit s k (r .0) (r .1)) (f .opens-fit s (r .0))
+
+-- and what it waits for is said by a number of 0 to 3
+pub waits-most : {t : List ℕ} {s k : ℕ} → TabLive t s k → view t (waiting s k) ≤ 3
+waits-most {t} {s} {k} w =
+    let r = live-there t s k (w .there) in table-facts t (w .sound) .shows .waits s k (r .0) (r .1)
 
 -- the selected tab is live
 pub selected-tab : {t : List ℕ} {s : ℕ} → Closable t s → TabLive t s (view t (selected s))

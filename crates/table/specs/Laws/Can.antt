@@ -61,6 +61,10 @@ pub number-small : mostNumber < 4294967296
 unfolding mostNumber
 number-small = omega arith
 
+-- there is a first serial
+pub first-serial : 0 < mostOpens
+first-serial = omega (arith, most-is)
+
 -- eight seats cannot open as many tabs as there are numbers
 pub numbers-enough : 8 * mostOpens < mostNumber
 unfolding mostNumber

@@ -13,7 +13,7 @@ use Rattle.names.specs.Base.{within}
 use Rattle.names.specs.Names.{same, folded, isName, isFolded, hasDot}
 use Rattle.names.specs.Laws.Fold.{folded-folded, folded-is}
 use Rattle.names.specs.Laws.Under.{same-eq, same-of}
-use Rattle.names.specs.Laws.Bools.{agree, Range, and-left, and-right, fails}
+use Rattle.names.specs.Laws.Bools.{agree, Range, and-left, and-right, and-both, fails}
 use Rattle.table.specs.Base.{count, lowest, series}
 use Rattle.table.specs.Rule.View.{View, number, owner, size, letter}
 use Rattle.table.specs.Rule.Word.{live, used, nameOf}
@@ -147,3 +147,9 @@ module _ (v : View) where
         there = and-left (used v p) (eqb (v (number p)) n) (w .passes);
         is = eqb-true (v (number p)) n (and-right (used v p) (eqb (v (number p)) n) (w .passes));
       }
+
+  pub process-found : (p n : ℕ) → Range 1 80 p → used v p ≡ true → v (number p) ≡ n → processOf v n ≢ 0
+  unfolding processOf
+  process-found p n r u e z =
+      let f : ℕ → Bool = λ q. used v q && eqb (v (number q)) n in
+      false≢true (sym (lowest-nil 80 f z p r) ∙ and-both (used v p) (eqb (v (number p)) n) u (eq-eqb (v (number p)) n e))

@@ -24,6 +24,18 @@ unfolding waits says
 waits-says v s k Cookie = refl
 waits-says v s k Document = refl
 
+-- what a tab waits for is said by that number alone, and 0 says nothing
+pub waits-same : (v u : View) (s k : ℕ) (m : Mark) → u (waiting s k) ≡ v (waiting s k) → waits u s k m ≡ waits v s k m
+waits-same v u s k m e = waits-says u s k m ∙ ap (λ (x : ℕ). says x m) e ∙ sym (waits-says v s k m)
+
+pub waits-none : (v : View) (s k : ℕ) (m : Mark) → v (waiting s k) ≡ 0 → waits v s k m ≡ false
+unfolding says
+waits-none v s k m e = waits-says v s k m ∙ ap (λ (x : ℕ). says x m) e ∙ none m
+  where
+    none : (m : Mark) → says 0 m ≡ false
+    none Cookie = refl
+    none Document = refl
+
 -- by the four numbers
 four : (P : ℕ → Type 0) → P 0 → P 1 → P 2 → P 3 → (w : ℕ) → w ≤ 3 → P w
 four P a b d e zero h = a

@@ -3,10 +3,10 @@
 use mathlib.Core.Path.{_≡_, refl, sym, ap, _∙_}
 use mathlib.Core.Bool.{Bool, true, false, not, _||_, false≢true}
 use mathlib.Core.Logic.{_≢_}
-use Prim.Native.Nat.{ℕ, _-_, _≤_, _<_}
+use Prim.Native.Nat.{ℕ, _≤_, _<_}
 use lib.Dec.{eqb}
 use borrow.Author.Tests.{eq-eqb, ne-eqb, eqb-true, not-false}
-use Rattle.names.specs.Names.{legalSeparate}
+use Rattle.names.specs.Names.{legalSeparate, ownerOf}
 use Rattle.names.specs.Laws.Bools.{Range}
 use Rattle.table.specs.Base.{sum, bits}
 use Rattle.table.specs.Rule.View.{View, tenant, separate, selected, seatZero, opens, slots, serial, row, waiting, number}
@@ -66,6 +66,12 @@ unused-zero v p e = eqb-true (v (number p)) 0 (not-false (eqb (v (number p)) 0) 
 pub zero-unused : (v : View) (p : ℕ) → v (number p) ≡ 0 → used v p ≡ false
 unfolding used
 zero-unused v p e = ap not (eq-eqb (v (number p)) 0 e)
+
+-- ---- a seat's owner
+
+pub owner-at : (v : View) (s : ℕ) → ownerAt v s ≡ ownerOf s (v (tenant s)) (v (separate s))
+unfolding ownerAt
+owner-at v s = refl
 
 -- ---- the facts
 

@@ -3,7 +3,7 @@
 use mathlib.Core.Path.{_≡_, refl, sym, ap, ap₂, _∙_, subst}
 use mathlib.Core.Bool.{Bool, true, false, _&&_, cond, false≢true}
 use mathlib.Core.Logic.{_≢_}
-use Prim.Native.Nat.{ℕ, _≤_}
+use Prim.Native.Nat.{ℕ, _+_, _*_, _≤_}
 use native.Mathlib.Omega.{arith}
 use lib.Dec.{eqb}
 use borrow.Author.Tests.{eq-eqb, ne-eqb, eqb-true, eqb-false}
@@ -86,6 +86,14 @@ id-seat s n h = omega arith
 pub id-serial : (s n : ℕ) → n ≤ mostOpens → serialOfId (tabId s n) ≡ n
 unfolding serialOfId tabId mostOpens form
 id-serial s n h = omega arith
+
+pub id-is : (s n : ℕ) → tabId s n ≡ s * 65536 + n
+unfolding tabId
+id-is s n = refl
+
+pub id-one : (s n m : ℕ) → tabId s n ≡ tabId s m → n ≡ m
+unfolding tabId
+id-one s n m e = omega arith
 
 pub id-whole : (i : ℕ) → tabId (seatOfId i) (serialOfId i) ≡ i
 unfolding tabId seatOfId serialOfId

@@ -11,12 +11,9 @@ use Rattle.names.specs.Laws.Bools.{or-case}
 use Rattle.table.specs.Rule.View.{View, waiting}
 use Rattle.table.specs.Rule.Layout.{view}
 use Rattle.table.specs.Rule.Held.{Wrote}
-use Rattle.table.specs.Rule.Asked.{TabLive}
 use Rattle.table.specs.Rule.Update.{weight, waits, marked, unmarked}
 use Rattle.table.specs.declared.mark.Mark.{Mark}
 use Rattle.table.specs.declared.mark.Mark.the-variants.{Cookie, Document}
-use Rattle.table.specs.Laws.There.{live-there}
-use Rattle.table.specs.Laws.Table.{table-facts}
 
 pub weight-cookie : {n : ℕ} → n ≡ 1 → n ≡ weight Cookie
 unfolding weight
@@ -45,10 +42,6 @@ waits-low v s k Document e =
     (or-case (eqb (v (waiting s k)) 2) (eqb (v (waiting s k)) 3) e)
 
 -- a live tab of a sound table waits for 3 at most
-pub waits-most : {t : List ℕ} {s k : ℕ} → TabLive t s k → view t (waiting s k) ≤ 3
-waits-most {t} {s} {k} w =
-    let r = live-there t s k (w .there) in table-facts t (w .sound) .shows .waits s k (r .0) (r .1)
-
 pub marked-of : {t u : List ℕ} {s k w n : ℕ} (m : Mark) → w ≡ view t (waiting s k) → n ≡ weight m
     → Wrote t u (waiting s k) (w + n) → u ≡ marked t s k m
 unfolding marked

@@ -1,6 +1,6 @@
 -- A mark that is waited for is in the number, so it can be taken away. Assumes nothing.
-use Rattle.table.specs.Laws.Asked.{live-tab}
-use Rattle.table.specs.Steps.Mark.{waits-most, waits-low, unmarked-of}
+use Rattle.table.specs.Laws.Asked.{live-tab, waits-most}
+use Rattle.table.specs.Steps.Mark.{waits-low, unmarked-of}
 use native.Mathlib.Omega.{arith}
 use borrow.Author.Needs.{needs}
 use Rattle.table.proofs.mark.clear_mark.Statement.{statement}

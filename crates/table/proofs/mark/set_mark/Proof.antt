@@ -1,6 +1,6 @@
 -- The tab waits for 3 at most, so what is written fits a byte. Assumes nothing.
-use Rattle.table.specs.Laws.Asked.{live-tab}
-use Rattle.table.specs.Steps.Mark.{waits-most, marked-of}
+use Rattle.table.specs.Laws.Asked.{live-tab, waits-most}
+use Rattle.table.specs.Steps.Mark.{marked-of}
 use native.Mathlib.Omega.{arith}
 use borrow.Author.Needs.{needs}
 use Rattle.table.proofs.mark.set_mark.Statement.{statement}

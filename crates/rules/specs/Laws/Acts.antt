@@ -1,0 +1,165 @@
+-- Every reply of a rule, made in a sound table, is one of the outcomes that Happens lists. Assumes nothing.
+use Prim.Native.Nat.{ℕ, _-_}
+use mathlib.Core.Path.{_≡_, refl}
+use mathlib.Core.Bool.{Bool, true, false, not, _&&_}
+use mathlib.Core.Logic.{_≢_}
+use mathlib.Core.List.{List, [], _∷_}
+use native.Mathlib.Omega.{arith}
+use lib.ListN.{getD, drop}
+use lib.Dec.{eqb}
+use borrow.Author.Tests.{eqb-true, eqb-false, not-true, not-false}
+use Rattle.names.specs.Base.{within}
+use Rattle.names.specs.Names.{soundBook}
+use Rattle.names.specs.Laws.Bools.{cases, and-left, and-right, within-at}
+use Rattle.table.specs.Table.{tenant, selected, row, tabs, mostOpens, view, soundTable, live, ownerAt, processWith, waits}
+use Rattle.table.specs.Table.{Closable}
+use Rattle.table.specs.declared.mark.Mark.the-variants.{Cookie, Document}
+use Rattle.table.specs.Laws.Asked.{let-seat, selected-tab}
+use Rattle.table.specs.Laws.Tab.{tab-found}
+use Rattle.table.specs.Laws.Table.{table-facts}
+use Rattle.table.specs.Laws.There.{live-there}
+use Rattle.rules.specs.Rule.Frame.{Frame}
+use Rattle.rules.specs.Rule.Action.{key}
+use Rattle.rules.specs.Rule.Desk.{desk, deskAt, Change, changed, Reply, reply, refuse}
+use Rattle.rules.specs.Rule.Allow.{cookieDomain, isUrl}
+use Rattle.rules.specs.Rule.Seat.{only, acceptable, openActions, openRule, selectRule, closeActions, closeRule, passRule}
+use Rattle.rules.specs.Rule.Seat.{plain, keyRule}
+use Rattle.rules.specs.Rule.Tab.{ask, displayRule, socketRule, urlRule, storeRule, retrieveRule, resultRule, documentRule}
+use Rattle.rules.specs.Rule.Step.{refused, made}
+use Rattle.rules.specs.Laws.Cases.{either}
+use Rattle.rules.specs.Laws.Open.{openable}
+use Rattle.rules.specs.Laws.Happens.{From, TabAt, Opens, did, idAt, processAt, suffixAt, Happens, nothing, joins, renews}
+use Rattle.rules.specs.Laws.Happens.{selects, leaves, ends, types, paints, sockets, fetches, stores, gets, denies}
+use Rattle.rules.specs.Laws.Happens.{results, documents}
+
+-- the reply of a rule, made at seat s
+abbrev pub HappensAt : List ℕ → List ℕ → List ℕ → ℕ → Reply → Type 0
+HappensAt t b e s r = Happens t b e (made t s r)
+
+-- a live tab of a sound table, by its own id
+pub tab-at : (t : List ℕ) (s k : ℕ) → soundTable t ≡ true → live (view t) s k ≡ true → TabAt t (idAt t s k) s k
+tab-at t s k sound l =
+    let r = live-there t s k l in
+    record { place = tab-found (view t) s k (table-facts t sound .shows) (r .0) (r .1) l; there = l; id = refl }
+
+-- ---- from a seat that is let
+
+module _ (t b e : List ℕ) (s : ℕ) (sound : soundTable t ≡ true) (l : view t (tenant s) ≢ 0) where
+  pub open-happens : From e 1 3 s → HappensAt t b e s (openRule (deskAt t s) b (drop 10 e))
+  unfolding openRule openActions only desk changed reply refuse refused made
+  open-happens f =
+      let d = deskAt t s in
+      let x = drop 10 e in
+      let p = processWith (view t) (ownerAt (view t) s) x in
+      either (HappensAt t b e s) (not (soundBook b)) _ _ (λ _. nothing 6 (λ z. omega arith))
+      (λ o. either (HappensAt t b e s) (not (acceptable b x)) _ _ (λ _. nothing 7 (λ z. omega arith))
+      (λ a. either (HappensAt t b e s) (eqb (d .tabs) 10) _ _ (λ _. nothing 8 (λ z. omega arith))
+      (λ n. either (HappensAt t b e s) (eqb (d .opens) mostOpens) _ _ (λ _. nothing 9 (λ z. omega arith))
+      (λ m.
+      let ok = not-false (acceptable b x) a in
+      let w : Opens t b e s
+      = record { from = f; book = not-false (soundBook b) o; suffix = ok; takes = openable t b x s sound l ok n m } in
+      cases (eqb p 0) (λ h. rw h (renews s w (eqb-true p 0 h))) (λ h. rw h (joins s w (eqb-false p 0 h)))))))
+
+  select-happens : From e 1 1 s → within 14 23 (getD e 10 0) ≡ true
+      → HappensAt t b e s (selectRule (deskAt t s) (getD e 10 0 - 13))
+  unfolding selectRule desk changed reply refused made
+  select-happens f h =
+      let k = getD e 10 0 - 13 in
+      let r = within-at 14 23 (getD e 10 0) h .low in
+      either (HappensAt t b e s) (live (view t) s k) _ _
+      (λ there. selects s k _ f (omega arith) (tab-at t s k sound there)) (λ _. nothing 0 (λ z. omega arith))
+
+  -- the selected tab
+  closable : eqb (view t (selected s)) 0 ≡ false → Closable t s
+  closable h = record { sound = sound; seat = let-seat t s l; picked = eqb-false (view t (selected s)) 0 h }
+
+  chosen-at : Closable t s → TabAt t (idAt t s (view t (selected s))) s (view t (selected s))
+  chosen-at w = tab-at t s (view t (selected s)) sound (selected-tab w .there)
+
+  close-happens : From e 1 1 s → getD e 10 0 ≡ 25 → HappensAt t b e s (closeRule (deskAt t s))
+  unfolding closeRule closeActions only desk changed reply refused made
+  close-happens f h =
+      let k = view t (selected s) in
+      let n = view t (tabs (view t (row s k))) in
+      either (HappensAt t b e s) (eqb k 0) _ _ (λ _. nothing 0 (λ z. omega arith))
+      (λ z.
+      let w = closable z in
+      cases (eqb n 1) (λ one. rw one (ends s _ f h w (chosen-at w) (eqb-true n 1 one)))
+      (λ more. rw more (leaves s _ f h w (chosen-at w) (eqb-false n 1 more))))
+
+  pub pass-happens : (a : ℕ → Frame)
+      → ((i : ℕ) → TabAt t i s (view t (selected s)) → Happens t b e (did (a i ∷ []) t))
+      → HappensAt t b e s (passRule (deskAt t s) a)
+  unfolding passRule desk changed reply refused made
+  pass-happens a g =
+      either (HappensAt t b e s) (eqb (view t (selected s)) 0) _ _ (λ _. nothing 0 (λ z. omega arith))
+      (λ z. g _ (chosen-at (closable z)))
+
+  pub key-happens : From e 1 1 s → HappensAt t b e s (keyRule (deskAt t s) (getD e 10 0))
+  unfolding keyRule changed refuse refused made
+  key-happens f =
+      let k = getD e 10 0 in
+      either (HappensAt t b e s) (within 14 23 k) _ _ (λ h. select-happens f h)
+      (λ _. either (HappensAt t b e s) (eqb k 25) _ _ (λ h. close-happens f (eqb-true k 25 h))
+      (λ _. either (HappensAt t b e s) (plain k) _ _ (λ _. pass-happens (λ i. key i k) (λ i w. types s i f w))
+      (λ _. nothing 5 (λ z. omega arith))))
+
+-- ---- from a live tab, the one in slot k of seat s, and to it
+
+module _ (t b e : List ℕ) (s k : ℕ) (w : TabAt t (idAt t s k) s k) where
+  -- allowed, or denied
+  ask-happens : {tag : ℕ} → From e 2 tag (idAt t s k) → (allowed : Bool) (a : Frame) (c : Change)
+      → (allowed ≡ true → Happens t b e (did (a ∷ []) (changed t s c)))
+      → HappensAt t b e s (ask allowed (idAt t s k) a c)
+  unfolding ask changed reply made
+  ask-happens {tag} f allowed a c g = either (HappensAt t b e s) allowed _ _ g (λ _. denies tag _ s k f w)
+
+  pub display-happens : From e 2 1 (idAt t s k) → (x : List ℕ)
+      → HappensAt t b e s (displayRule (deskAt t s) k x)
+  unfolding displayRule desk changed reply refused made
+  display-happens f x =
+      either (HappensAt t b e s) (eqb (view t (selected s)) k) _ _
+      (λ h. paints _ s k x f w (eqb-true (view t (selected s)) k h)) (λ _. nothing 0 (λ z. omega arith))
+
+  pub socket-happens : From e 2 2 (idAt t s k) → (port : ℕ) (host : List ℕ)
+      → HappensAt t b e s (socketRule (deskAt t s) k port host)
+  unfolding socketRule desk changed
+  socket-happens f port host = ask-happens f _ _ _ (λ h. sockets _ s k port host f w h)
+
+  pub url-happens : From e 2 3 (idAt t s k) → (u : List ℕ) → HappensAt t b e s (urlRule (deskAt t s) k u)
+  unfolding urlRule desk changed
+  url-happens f u =
+      let waiting = waits (view t) s k Document in
+      ask-happens f _ _ _
+      (λ h.
+      fetches _ s k u f w (and-left (isUrl u) (not waiting) h) (not-true waiting (and-right (isUrl u) (not waiting) h)))
+
+  pub store-happens : From e 2 4 (idAt t s k) → (domain x : List ℕ)
+      → HappensAt t b e s (storeRule (deskAt t s) k domain x)
+  unfolding storeRule desk changed
+  store-happens f domain x = ask-happens f _ _ _ (λ h. stores _ s k domain x f w h)
+
+  pub retrieve-happens : From e 2 5 (idAt t s k) → (domain : List ℕ)
+      → HappensAt t b e s (retrieveRule (deskAt t s) k domain)
+  unfolding retrieveRule desk changed
+  retrieve-happens f domain =
+      let named = cookieDomain domain (suffixAt t s k) in
+      let waiting = waits (view t) s k Cookie in
+      ask-happens f _ _ _
+      (λ h. gets _ s k domain f w (and-left named (not waiting) h) (not-true waiting (and-right named (not waiting) h)))
+
+  pub result-happens : (n : ℕ) → From e 3 1 n → (x : List ℕ) → HappensAt t b e s (resultRule (deskAt t s) n k x)
+  unfolding resultRule desk changed reply refuse refused made
+  result-happens n f x =
+      let own = eqb (processAt t s k) n in
+      let waiting = waits (view t) s k Cookie in
+      either (HappensAt t b e s) (own && waiting) _ _
+      (λ h. results n _ s k x f w (eqb-true (processAt t s k) n (and-left own waiting h)) (and-right own waiting h))
+      (λ _. nothing 10 (λ z. omega arith))
+
+  pub document-happens : From e 4 1 0 → (x : List ℕ) → HappensAt t b e s (documentRule (deskAt t s) k x)
+  unfolding documentRule desk changed reply refuse refused made
+  document-happens f x =
+      either (HappensAt t b e s) (waits (view t) s k Document) _ _ (λ h. documents _ s k x f w h)
+      (λ _. nothing 10 (λ z. omega arith))
