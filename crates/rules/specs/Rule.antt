@@ -1,4 +1,4 @@
--- The definitions to be held beside document 01, in reading order.
+-- The definitions, in reading order. To be held beside document 01:
 pub mod Frame
 pub mod Event
 pub mod Action
@@ -7,3 +7,9 @@ pub mod Allow
 pub mod Seat
 pub mod Tab
 pub mod Step
+-- and to be held beside demand 3 and the Quark paper:
+pub mod Call
+pub mod History
+pub mod Demand
+pub mod Quark
+pub mod Ids

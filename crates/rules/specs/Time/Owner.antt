@@ -1,0 +1,99 @@
+-- Lettings and owners: every seat's record is as the book of the start orders it, so its owner is the one that the order form
+-- gives, and the process of each of its tabs has that owner. Assumes nothing.
+use Prim.Native.Nat.{ℕ}
+use mathlib.Core.Path.{_≡_, refl, sym, ap₂, _∙_}
+use mathlib.Core.Bool.{true}
+use mathlib.Core.List.{List}
+use Rattle.names.specs.Names.{orders, lettingOf, tenantOf, separateOf, ownerOf}
+use Rattle.names.specs.Laws.Bools.{Range}
+use Rattle.names.specs.Laws.Order.{ownerBy, owner-by-is}
+use Rattle.table.specs.Table.{tenant, separate, row, owner, view, live, ownerAt}
+use Rattle.table.specs.Laws.Fresh.{fresh-tenant, fresh-separate}
+use Rattle.table.specs.Laws.Sound.{owner-at}
+use Rattle.table.specs.Laws.There.{live-there}
+use Rattle.table.specs.Laws.Table.{table-facts}
+use Rattle.rules.specs.Rule.Call.{Call}
+use Rattle.rules.specs.Rule.History.{History}
+use Rattle.rules.specs.Rules.{Outcome}
+use Rattle.rules.specs.Laws.Happens.{Happens, nothing, joins, renews, selects, leaves, ends, types, points, paints}
+use Rattle.rules.specs.Laws.Happens.{sockets, fetches, stores, gets, denies, results, documents, refused-is, at-live}
+use Rattle.rules.specs.Time.Induct.{induct, history-sound}
+use Rattle.rules.specs.Time.Rows.{SameHeads, OpenHeads, opened-heads, closed-heads, picked-rows, marked-rows}
+use Rattle.rules.specs.Time.Rows.{unmarked-rows}
+
+-- ---- no call changes a letting
+
+record SameLets (t u : List ℕ) : Type 0 where
+  tenant= : (s : ℕ) → view u (tenant s) ≡ view t (tenant s)
+  separate= : (s : ℕ) → view u (separate s) ≡ view t (separate s)
+
+module _ {t : List ℕ} where
+  lets-same : SameLets t t
+  lets-same = record { tenant= = λ s. refl; separate= = λ s. refl }
+
+  lets-open : {u : List ℕ} {s : ℕ} → OpenHeads t u s → SameLets t u
+  lets-open w = record { tenant= = w .tenant=; separate= = w .separate= }
+
+  lets-kept : {u : List ℕ} → SameHeads t u → SameLets t u
+  lets-kept w = record { tenant= = w .tenant=; separate= = w .separate= }
+
+lets-stay : {book : List ℕ} {cs : List Call} {t b e : List ℕ} {x : Outcome} → History book cs t → Happens t b e x
+    → SameLets t (x .table)
+lets-stay {t = t} g (nothing m z) = rw (refused-is m t) lets-same
+lets-stay g (joins s w z) = lets-open (opened-heads _ s _ (w .takes))
+lets-stay g (renews s w z) = lets-open (opened-heads _ s _ (w .takes))
+lets-stay g (selects s k i fr ky a) = lets-kept (picked-rows _ s k (at-live (history-sound g) a) .heads)
+lets-stay g (leaves s i fr ky w a z) = lets-kept (closed-heads _ s w)
+lets-stay g (ends s i fr ky w a z) = lets-kept (closed-heads _ s w)
+lets-stay g (types s i fr a) = lets-same
+lets-stay g (points s i x fr a) = lets-same
+lets-stay g (paints i s k x fr a z) = lets-same
+lets-stay g (sockets i s k port host fr a z) = lets-same
+lets-stay g (fetches i s k u fr a ok z) = lets-kept (marked-rows _ s k _ (at-live (history-sound g) a) z .heads)
+lets-stay g (stores i s k domain x fr a ok) = lets-same
+lets-stay g (gets i s k domain fr a ok z) = lets-kept (marked-rows _ s k _ (at-live (history-sound g) a) z .heads)
+lets-stay g (denies tag i s k fr a) = lets-same
+lets-stay g (results m i s k x fr a z y) = lets-kept (unmarked-rows _ s k _ (at-live (history-sound g) a) .heads)
+lets-stay g (documents i s k x fr a y) = lets-kept (unmarked-rows _ s k _ (at-live (history-sound g) a) .heads)
+
+-- ---- lettings
+
+abbrev Tenants : List ℕ → List Call → List ℕ → Type 0
+Tenants book cs t = (s : ℕ) → Range 1 8 s → view t (tenant s) ≡ tenantOf (lettingOf s (orders book))
+
+abbrev Separates : List ℕ → List Call → List ℕ → Type 0
+Separates book cs t = (s : ℕ) → Range 1 8 s → view t (separate s) ≡ separateOf (lettingOf s (orders book))
+
+pub history-tenant : {book : List ℕ} {cs : List Call} {t : List ℕ} → History book cs t → (s : ℕ) → Range 1 8 s
+    → view t (tenant s) ≡ tenantOf (lettingOf s (orders book))
+history-tenant =
+    induct Tenants
+    (record {
+      fresh! = λ book e s r. fresh-tenant book e s r;
+      start! = λ g h b r. h;
+      step! = λ b e n r g h w s q. lets-stay g w .tenant= s ∙ h s q;
+    })
+
+pub history-separate : {book : List ℕ} {cs : List Call} {t : List ℕ} → History book cs t → (s : ℕ) → Range 1 8 s
+    → view t (separate s) ≡ separateOf (lettingOf s (orders book))
+history-separate =
+    induct Separates
+    (record {
+      fresh! = λ book e s r. fresh-separate book e s r;
+      start! = λ g h b r. h;
+      step! = λ b e n r g h w s q. lets-stay g w .separate= s ∙ h s q;
+    })
+
+-- ---- owners
+
+module _ {book : List ℕ} {cs : List Call} {t : List ℕ} (h : History book cs t) where
+  pub history-owner : (s : ℕ) → Range 1 8 s → ownerAt (view t) s ≡ ownerBy book s
+  history-owner s r =
+      owner-at (view t) s ∙ ap₂ (λ (a b : ℕ). ownerOf s a b) (history-tenant h s r) (history-separate h s r)
+      ∙ sym (owner-by-is book s)
+
+  -- the process of a live tab has the owner that the order form gives the tab's desk
+  pub tab-owner : (s k : ℕ) → live (view t) s k ≡ true → view t (owner (view t (row s k))) ≡ ownerBy book s
+  tab-owner s k l =
+      let r = live-there t s k l in
+      table-facts t (history-sound h) .shows .tabs-hang s k (r .0) (r .1) l .own ∙ history-owner s (r .0)
