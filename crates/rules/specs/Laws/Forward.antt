@@ -1,11 +1,11 @@
 -- What a call does, said forward: a start with a sound book, an open that the table takes, a cookie that a tab may ask for.
 -- `Happens` says what a step can come to; here is when it comes to these, for an event that is read and for an event that is a
 -- frame's bytes. Assumes nothing.
-use Prim.Native.Nat.{ℕ, _+_, _*_, _-_, _≤_, _<_}
-use mathlib.Core.Path.{_≡_, refl, ap, _∙_}
+use Prim.Native.Nat.{ℕ, _-_, _≤_, _<_}
+use mathlib.Core.Path.{_≡_, refl, ap, subst, _∙_}
 use mathlib.Core.Bool.{true, false}
 use mathlib.Core.Logic.{_≢_}
-use mathlib.Core.List.{List, []}
+use mathlib.Core.List.{List, [], append-nil}
 use native.Mathlib.Omega.{arith}
 use lib.ListN.{length, getD, drop}
 use borrow.Author.Tests.{le-ltb, le-leb, eq-eqb, ne-eqb}
@@ -14,7 +14,6 @@ use Rattle.names.specs.Laws.Bools.{and-both}
 use Rattle.names.specs.Laws.Lists.{alike-refl}
 use Rattle.table.specs.Table.{tenant, opens, row, mostOpens, tableBytes, num, view, soundTable, nameOf, tabOf, liveTabs}
 use Rattle.table.specs.Table.{Openable, fresh, opened, waits, marked}
-use Rattle.table.specs.Laws.Num.{num-zero, num-suc}
 use Rattle.table.specs.declared.find.Place.the-variants.{At}
 use Rattle.table.specs.declared.mark.Mark.the-variants.{Cookie}
 use Rattle.rules.specs.Rule.Frame.{be, framed, head, bytes}
@@ -30,6 +29,7 @@ use Rattle.rules.specs.declared.event.Event.the-variants.{Seat, Tab}
 use Rattle.rules.specs.declared.event.SeatMessage.the-variants.{Open}
 use Rattle.rules.specs.declared.event.TabMessage.the-variants.{Retrieve}
 use Rattle.rules.specs.declared.event.Reading.the-variants.{Whole}
+use Rattle.rules.specs.Laws.Head.{Front, frame-front}
 use Rattle.rules.specs.Laws.Tab.{domain-length}
 use Rattle.rules.specs.Laws.Open.{acceptable-suffix}
 use Rattle.rules.specs.Laws.Happens.{TabAt, did, suffixAt}
@@ -90,10 +90,6 @@ pub record Reads (e : List ℕ) (p i g : ℕ) (x : List ℕ) : Type 0 where
   pub tag= : getD e 5 0 ≡ g
   pub payload= : drop 10 e ≡ x
 
-four : (e : List ℕ) (at : ℕ)
-    → num e at 4 ≡ ((getD e (at + 0) 0 * 256 + getD e (at + 1) 0) * 256 + getD e (at + 2) 0) * 256 + getD e (at + 3) 0
-four e at = omega (arith, num-suc e at 3, num-suc e at 2, num-suc e at 1, num-suc e at 0, num-zero e at)
-
 -- ten bytes of head, and as many more as it says
 sized-of : (e : List ℕ) → 10 ≤ length e → num e 6 4 ≤ 4096 → num e 6 4 ≡ length e - 10 → sized e ≡ true
 unfolding sized
@@ -103,13 +99,15 @@ pub frame-reads : (p i g : ℕ) (x : List ℕ) → p < 256 → i < 4294967296 �
     → Reads (bytes (framed p i g x)) p i g x
 unfolding bytes head be
 frame-reads p i g x hp hi hg hx =
-    let e = bytes (framed p i g x) in
-    let n : num e 6 4 ≡ length x = omega (arith, four e 6) in
+    let a = framed p i g x in
+    let e = bytes a in
+    let f = subst (Front a []) (append-nil e) (frame-front a hp hi hg (omega arith) []) in
+    let n = f .size= in
     record {
       whole = sized-of e (omega arith) (omega arith) (omega arith);
-      party= = omega arith;
-      id= = omega (arith, four e 1);
-      tag= = omega arith;
+      party= = f .party=;
+      id= = f .id=;
+      tag= = f .tag=;
       payload= = refl;
     }
 

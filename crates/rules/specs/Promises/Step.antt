@@ -22,6 +22,7 @@ use Rattle.rules.specs.Laws.Answer.{packed-number, packed-actions, packe
 use Rattle.rules.specs.Laws.Answer.{answer-actions, answer-written, answer-top, room-front, room-past, room-length}
 use Rattle.rules.specs.Laws.Answer.{step-nothing}
 use Rattle.rules.specs.Laws.Start.{start-starts, start-alone}
+use Rattle.rules.specs.Laws.Widths.{AllNarrow, step-widths}
 
 -- ---- determined
 
@@ -94,9 +95,13 @@ step-few room t b e = step-orderly t b e room .few
 pub step-room : (room : ℕ) (t b e : List ℕ) → length (frames (stepOf room t b e .actions)) ≤ 4106
 step-room room t b e = step-orderly t b e room .fits
 
--- never more than the room has.
+-- never more than the room has,
 pub step-fits : (room : ℕ) (t b e : List ℕ) → length (frames (stepOf room t b e .actions)) ≤ room
 step-fits room t b e = frames-fit t b e room
+
+-- and every field of an action fits the bytes that a frame has for it.
+pub step-narrow : (room : ℕ) (t b e : List ℕ) → AllNarrow (stepOf room t b e .actions)
+step-narrow room t b e = step-widths room t b e
 
 -- A store that is allowed and whose payload has 4,096 bytes takes all 4,106.
 pub largest-store : (d : Desk) (k : ℕ) (domain x : List ℕ) → cookieDomain domain (d .suffix k) ≡ true
