@@ -1,0 +1,7 @@
+-- The definitions. To be held beside document 01: Stream, Line, Log. What the functions leave: Written, Reading, Serving.
+pub mod Stream
+pub mod Line
+pub mod Log
+pub mod Written
+pub mod Reading
+pub mod Serving
