@@ -1,0 +1,6 @@
+-- What the proofs share.
+mod Again
+mod Slices
+mod Local
+mod Turns
+mod Result

@@ -1,0 +1,36 @@
+-- A run of the program, turn by turn from a place on: what its reads brought, chunk by chunk, and the text of its turns. Its
+-- loop goes on while no turn has given the last event, and writes out each turn's text before the next. Assumes nothing.
+use Prim.Native.Nat.{ℕ}
+use mathlib.Core.Bool.{true, false}
+use mathlib.Core.Path.{_≡_}
+use mathlib.Core.List.{List, [], _∷_, _++_}
+use lib.ListN.{length, take, drop}
+use Rattle.log.specs.Inner.{ready}
+use Rattle.desklog.specs.Turn.{mostEvents, held, Filled, Went}
+use Rattle.desklog.specs.declared.turn.Place.{Place}
+
+-- where it begins: nothing is read, and nothing given
+abbrev pub outset : Place
+outset = record { place = 0; have = 0; number = 0; filled = 0; ended = false; done = false }
+
+-- nothing was ready, and the buffer was filled up
+pub record Read (buf : List ℕ) (p : Place) (buf′ : List ℕ) (p′ : Place) : Type 0 where
+  pub none : ready mostEvents (p .ended) (held buf p) ≡ record { count = 0; last = false }
+  pub filled : Filled buf p buf′ p′
+
+-- what a read brought
+unfoldable pub came : List ℕ → Place → List ℕ → Place → List ℕ
+came buf p buf′ p′ = drop (length (held buf p)) (held buf′ p′)
+
+-- of book b, from buffer, table, room and place on
+pub data Turns (b : List ℕ) : List ℕ → List ℕ → List ℕ → Place → List (List ℕ) → List ℕ → Type 0 where
+  -- the last events; what would have come after them is not read
+  stops : {buf t o buf′ t′ o′ : List ℕ} {p p′ : Place} {m : ℕ} (unread : List (List ℕ)) → Went buf t b o p m buf′ t′ o′ p′
+      → p′ .done ≡ true → Turns b buf t o p unread (take (p′ .filled) o′)
+  gives : {buf t o buf′ t′ o′ : List ℕ} {p p′ : Place} {m : ℕ} {cs : List (List ℕ)} {x : List ℕ}
+      → Went buf t b o p m buf′ t′ o′ p′ → p′ .done ≡ false → Turns b buf′ t′ o′ p′ cs x
+      → Turns b buf t o p cs (take (p′ .filled) o′ ++ x)
+  reads : {buf t o buf′ : List ℕ} {p p′ : Place} {cs : List (List ℕ)} {x : List ℕ} → Read buf p buf′ p′ → p′ .ended ≡ false
+      → Turns b buf′ t o p′ cs x → Turns b buf t o p (came buf p buf′ p′ ∷ cs) x
+  ends : {buf t o buf′ : List ℕ} {p p′ : Place} {x : List ℕ} → Read buf p buf′ p′ → p′ .ended ≡ true
+      → Turns b buf′ t o p′ [] x → Turns b buf t o p [] x

@@ -1,0 +1,33 @@
+// The desk log program: book.bin and a stream of events in, a line for each event and each action out.
+mod book;
+mod buffer;
+mod give;
+mod help;
+mod run;
+mod serve;
+mod turn;
+
+use crate::book::read_book;
+use crate::run::log;
+ghost use mathlib.Core.Path.{_≡_};
+ghost use lib.ListN.{length};
+
+// Room for the text of a turn.
+fn room() -> [u8; 524288]
+    ensures { λ r. ⌜ 524288 ≡ length r ⌝ }
+{
+    [0; 524288]
+}
+
+fn main() {
+    if help::answered() {
+        return;
+    }
+    // a byte more than a book may have, so that one too long is seen to be
+    let mut book = [0u8; 32769];
+    let mut table = [0u8; 6152];
+    let mut buf = io::large_buffer();
+    let mut out = room();
+    let n = read_book(&mut book);
+    log(&mut buf, &mut table, &book[..n], &mut out);
+}
