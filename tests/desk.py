@@ -1,4 +1,5 @@
-"""A working directory with a book, the desk log program run there, and the words in which its tests speak of recordings."""
+"""A working directory with a book, a program run there, and the words in which the tests speak of recordings."""
+import atexit
 import os
 import pathlib
 import shutil
@@ -8,9 +9,12 @@ import tempfile
 import threading
 
 HERE = pathlib.Path(__file__).resolve().parent
-PROGRAM = pathlib.Path(sys.argv[1] if len(sys.argv) > 1 else HERE.parent / 'target/bin/desklog').resolve()
+# the program that is named, or else the one of the test's own name
+OWN = HERE.parent / 'target/bin' / pathlib.Path(sys.argv[0]).stem
+PROGRAM = pathlib.Path(sys.argv[1] if len(sys.argv) > 1 else OWN).resolve()
 VECTORS = HERE / 'vectors'
 WORK = tempfile.mkdtemp()
+atexit.register(shutil.rmtree, WORK)
 
 
 def read(name, kind):
@@ -30,6 +34,7 @@ class Desk:
                                 env={**os.environ, **(env or {})}, **more)
 
     def log(self, events, **more):
+        """What the program writes to its two outputs, and its status."""
         run = self.start(**more)
         out, err = run.communicate(events)
         return out, err, run.returncode
@@ -102,7 +107,3 @@ def shim():
     subprocess.run(['gcc', '-std=c11', '-O2', '-Wall', '-Wextra', '-Wpedantic', '-Werror', '-shared', '-fPIC', HERE / 'shim.c',
                     '-o', path], check=True)
     return path
-
-
-def remove():
-    shutil.rmtree(WORK)

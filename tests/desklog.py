@@ -8,28 +8,13 @@ status is 0 only if nothing failed.
 """
 import os
 import pathlib
-import select
-import signal
 import sys
-import threading
 
 sys.dont_write_bytecode = True
-from desk import VECTORS, WORK, Desk, by_event, frame, frames, memory, read, remove, shim as built, temporary, write
+from checks import check, closed, closing, prompt, steady, usage
+from desk import VECTORS, WORK, Desk, by_event, frame, frames, read, shim as built, temporary
 
 WORKED = 'worked-example'
-
-passed = failed = 0
-
-
-def check(what, right, said=''):
-    global passed, failed
-    if right:
-        passed += 1
-        return
-    failed += 1
-    print(f'failed: {what}')
-    if said:
-        print(str(said)[:2000])
 
 
 def vectors(shim):
@@ -92,34 +77,6 @@ def ends(shim):
     check('no standard input', run.wait() == 0 and out == b'' and err == b'', (out, err))
 
 
-def prompt():
-    """Whoever types events sees each one's lines before the next is typed."""
-    desk, events = Desk(read(WORKED, 'book')), read(WORKED, 'events')
-    run, at = desk.start(), 0
-    for end, lines in zip(frames(events), by_event(read(WORKED, 'log'))):
-        write(run, events[at:end])
-        said, more = b'', b'-'
-        while more and len(said) < len(lines) and select.select([run.stdout], [], [], 10)[0]:
-            more = os.read(run.stdout.fileno(), len(lines) - len(said))
-            said += more
-        check(f'the lines of the event that ends at {end}, at once', said == lines, said)
-        at = end
-    run.stdin.close()
-    check('nothing after the last event', run.stdout.read() == b'' and run.wait() == 0)
-
-
-def closed():
-    """Where standard output is closed early the program ends quietly, by the signal or without it."""
-    desk = Desk(read(WORKED, 'book'))
-    many = frame(1, 1, 2, b'\1' * 4) * 200000
-    for what, action in (('by the signal', signal.SIG_DFL), ('the signal ignored', signal.SIG_IGN)):
-        run = desk.start(preexec_fn=lambda: signal.signal(signal.SIGPIPE, action), stdin=temporary(many))
-        run.stdout.read(10)
-        run.stdout.close()
-        err = run.stderr.read()
-        check(f'standard output closed, {what}', run.wait(20) in (0, -signal.SIGPIPE) and err == b'', (run.returncode, err))
-
-
 def calls(shim):
     """The log is written by far fewer calls than it has lines."""
     desk, calls = Desk(read(WORKED, 'book')), pathlib.Path(WORK) / 'calls'
@@ -130,63 +87,24 @@ def calls(shim):
     check('by less than a call for 50 of them', reads + writes < 1200, (reads, writes))
 
 
-def usage():
-    """--help explains itself on standard output; any other argument is answered in a line on standard error."""
-    desk = Desk(None)
-    run = desk.start('--help')
-    out, err = run.communicate()
-    check('--help', run.returncode == 0 and err == b'' and 8 < out.count(b'\n') <= 24 and b'book.bin' in out, out)
-    check('--help fits a screen', max(map(len, out.split(b'\n'))) <= 88, out)
-    for word in ('-h', '--helpless', 'book.bin', ''):
-        run = desk.start(word)
-        out, err = run.communicate()
-        check(f'argument {word!r}', out == b'' and err.count(b'\n') == 1 and b'--help' in err, (out, err))
-
-
-def long_stream(megabytes):
-    """A stream of many megabytes, in memory that does not grow, every line of its log compared."""
-    desk, opening = Desk(read(WORKED, 'book')), read(WORKED, 'events')[:frames(read(WORKED, 'events'))[0]]
-    first = by_event(read(WORKED, 'log'))[0]
+def long_stream(book, opening):
+    """Stores of 4,096 bytes behind an open, which is given with its lines."""
     cookie = b'\5a.com' + (bytes(range(256)) * 16)[:4090]
-    one, line = frame(2, 65537, 4, cookie), b'A 3 1 1 4096 ' + cookie.hex().encode() + b'\n'
-    peak = {}
-    for size in (1, megabytes):
-        count = size * 1000000 // len(one)
-        run = desk.start()
-
-        def feed():
-            write(run, opening)
-            for _ in range(count):
-                write(run, one)
-            peak[size] = memory(run.pid)
-            run.stdin.close()
-
-        feeder = threading.Thread(target=feed)
-        feeder.start()
-        right = run.stdout.read(len(first)) == first
-        for n in range(2, count + 2):
-            want = b'E %d 0 1\n' % n + line
-            right = right and run.stdout.read(len(want)) == want
-        right = right and run.stdout.read() == b''
-        feeder.join()
-        check(f'{count} events of {size} MB', right and run.wait() == 0)
-    # how much of the room for a turn's text is ever touched depends on how fast the events come
-    check(f'no more memory for {megabytes} MB than for one', 0 < peak[megabytes] <= peak[1] + 512, peak)
-    print(f'peak memory: {peak[1]} KB for 1 MB, {peak[megabytes]} KB for {megabytes} MB')
+    line = b'A 3 1 1 4096 ' + cookie.hex().encode() + b'\n'
+    steady(book, opening, frame(2, 65537, 4, cookie), lambda n: b'E %d 0 1\n' % (n + 2) + line, 100)
 
 
-try:
-    shim = built()
-    vectors(shim)
-    cut_ends()
-    books()
-    ends(shim)
-    prompt()
-    closed()
-    calls(shim)
-    usage()
-    long_stream(100)
-finally:
-    remove()
-print(f'{passed} passed, {failed} failed')
-sys.exit(failed > 0 or passed == 0)
+shim = built()
+vectors(shim)
+cut_ends()
+books()
+ends(shim)
+worked = read(WORKED, 'book')
+events, ends_at = read(WORKED, 'events'), [0, *frames(read(WORKED, 'events'))]
+pieces = [events[at:end] for at, end in zip(ends_at, ends_at[1:])]
+prompt(worked, list(zip(pieces, by_event(read(WORKED, 'log')))))
+closed(worked, frame(1, 1, 2, b'\1' * 4))
+calls(shim)
+usage()
+long_stream(worked, (pieces[0], by_event(read(WORKED, 'log'))[0]))
+closing()

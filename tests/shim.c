@@ -1,5 +1,5 @@
-/* Stands between the desk log program and the system's read and write, by LD_PRELOAD, and makes them what a bad day makes of
-   them. Of the environment:
+/* Stands between a program and the system's read and write, by LD_PRELOAD, and makes them what a bad day makes of them. Of the
+   environment:
      READ_MOST, WRITE_MOST   a read or a write of standard input or output moves at most so many bytes
      READ_FAILS              so many bytes of standard input come, and then reads fail
      CALLS                   a file for the count of calls on standard input and output: "reads writes" */

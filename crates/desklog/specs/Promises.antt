@@ -1,41 +1,20 @@
 -- What is promised of the program: its text is the log. Assumes nothing.
-use Prim.Native.Nat.{ℕ, _≤_}
+use Prim.Native.Nat.{ℕ}
 use mathlib.Core.Bool.{Bool, true, false, true≢false}
 use mathlib.Core.Path.{_≡_, refl, sym, ap, subst, _∙_}
-use mathlib.Core.List.{List, _++_, append-nil}
-use lib.ListN.{length, drop, take-append-drop, drop-of-length-le}
-use native.Mathlib.Omega.{arith}
-use borrow.Author.Tests.{eqb-true}
+use mathlib.Core.List.{List, _++_}
 use Rattle.rules.specs.Rules.{startOf}
 use Rattle.log.specs.Log as log
 use Rattle.log.specs.Log.{logOf, joined, Reads}
 use Rattle.log.specs.Inner.{ready}
 use Rattle.log.specs.Promises.{whole-log}
-use Rattle.desklog.specs.Turn.{mostEvents, held, Filled, Turn, gave, read}
-use Rattle.desklog.specs.Turns.{outset, came, Turns, stops, gives, reads, ends}
-use Rattle.desklog.specs.Laws.Turn.{waits}
 use Rattle.log.specs.declared.frame.Ready.{Ready}
-use Rattle.desklog.specs.declared.turn.Place.{Place}
-
--- ---- a read
-
--- what is held after it is what was held, and then what came
-held-then : {buf buf′ : List ℕ} {p p′ : Place} → Filled buf p buf′ p′ → held buf′ p′ ≡ held buf p ++ came buf p buf′ p′
-unfolding came
-held-then {buf} {buf′} {p} {p′} f =
-    let h = held buf p in
-    let h′ = held buf′ p′ in
-    sym (take-append-drop (length h) h′) ∙ ap (λ (l : List ℕ). l ++ drop (length h) h′) (f .kept)
-
--- where the end was seen, nothing came
-none-came : {buf buf′ : List ℕ} {p p′ : Place} → Filled buf p buf′ p′ → p′ .ended ≡ true → held buf′ p′ ≡ held buf p
-unfolding came
-none-came {buf} {buf′} {p} {p′} f e =
-    let h = held buf p in
-    let h′ = held buf′ p′ in
-    let n = eqb-true (length h′) (length h) (sym (f .ended=) ∙ e) in
-    let short : length h′ ≤ length h = omega arith in
-    held-then f ∙ ap (λ (l : List ℕ). h ++ l) (drop-of-length-le h′ short) ∙ append-nil h
+use Rattle.reader.specs.Held.{outset, held, Filled, came}
+use Rattle.reader.specs.Promises.{held-then, none-came}
+use Rattle.reader.specs.declared.place.Place.{Place}
+use Rattle.desklog.specs.Turn.{mostEvents, Turn, gave, read}
+use Rattle.desklog.specs.Turns.{Turns, stops, gives, reads, ends}
+use Rattle.desklog.specs.Laws.Turn.{waits}
 
 -- Where nothing is ready a turn reads: none is idle.
 pub turn-reads : {buf t b o : List ℕ} {p : Place} {buf′ t′ o′ : List ℕ} {p′ : Place} → Turn buf t b o p buf′ t′ o′ p′

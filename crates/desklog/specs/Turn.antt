@@ -1,16 +1,15 @@
--- A turn of the reader. `held` is what is unread of the stream; a turn gives the events that are ready to the kernel, and their
--- text lies at the front of the room; where none is ready it reads, and what came stands behind what is held. Which bytes a
--- read brings no contract can say. Assumes nothing.
-use Prim.Native.Nat.{ℕ, _+_, _-_, _*_, _≤_, _<_}
+-- A turn of the reader: it gives the events that are ready in what is held of the stream to the kernel, and their text lies at
+-- the front of the room; where none is ready it reads. Assumes nothing.
+use Prim.Native.Nat.{ℕ, _+_, _*_, _≤_, _<_}
 use mathlib.Core.Bool.{Bool, true, false}
 use mathlib.Core.Path.{_≡_}
 use mathlib.Core.List.{List}
 use lib.ListN.{length, take, drop}
-use lib.Dec.{eqb}
 use Rattle.log.specs.Log.{joined, logFrom, tableAfter}
 use Rattle.log.specs.Inner.{mostText, taken, ready, Many}
+use Rattle.reader.specs.Held.{Sound, held, Filled}
+use Rattle.reader.specs.declared.place.Place.{Place}
 use Rattle.desklog.specs.declared.give.Given.{Given}
-use Rattle.desklog.specs.declared.turn.Place.{Place}
 
 -- a turn gives no more
 abbrev pub mostEvents : ℕ
@@ -21,11 +20,6 @@ abbrev pub mostBytes : ℕ
 mostBytes = 4106
 
 -- ---- what is asked
-
--- the unread bytes lie in a buffer of n bytes
-pub record Sound (p : Place) (n : ℕ) : Type 0 where
-  pub ahead : p .place ≤ p .have
-  pub inside : p .have ≤ n
 
 -- the buffer holds any event, the room takes a turn's text, and a turn's events can be counted
 pub record Ample (p : Place) (buf o : List ℕ) : Type 0 where
@@ -44,18 +38,6 @@ pub record Large (buf o : List ℕ) : Type 0 where
 pub record Gave (s t b o : List ℕ) (n : ℕ) (ended : Bool) (t′ o′ : List ℕ) (r : Given) : Type 0 where
   pub ready= : r .ready ≡ ready mostEvents ended s
   pub many : Many s t b o n (r .ready .count) t′ o′ (r .served .cursor) (r .served .filled)
-
-unfoldable pub held : List ℕ → Place → List ℕ
-held buf p = take (p .have - p .place) (drop (p .place) buf)
-
--- a read: what was held is held still, and what came stands behind it; where nothing came, the stream has ended
-pub record Filled (buf : List ℕ) (p : Place) (buf′ : List ℕ) (p′ : Place) : Type 0 where
-  pub sound : Sound p′ (length buf)
-  pub kept : take (length (held buf p)) (held buf′ p′) ≡ held buf p
-  pub ended= : p′ .ended ≡ eqb (length (held buf′ p′)) (length (held buf p))
-  pub number= : p′ .number ≡ p .number
-  pub filled= : p′ .filled ≡ 0
-  pub done= : p′ .done ≡ false
 
 -- past the events that were given
 unfoldable pub past : Place → Given → Place

@@ -4,23 +4,16 @@ use Prim.Native.Nat.{ℕ}
 use mathlib.Core.Bool.{true, false}
 use mathlib.Core.Path.{_≡_}
 use mathlib.Core.List.{List, [], _∷_, _++_}
-use lib.ListN.{length, take, drop}
+use lib.ListN.{take}
 use Rattle.log.specs.Inner.{ready}
-use Rattle.desklog.specs.Turn.{mostEvents, held, Filled, Went}
-use Rattle.desklog.specs.declared.turn.Place.{Place}
-
--- where it begins: nothing is read, and nothing given
-abbrev pub outset : Place
-outset = record { place = 0; have = 0; number = 0; filled = 0; ended = false; done = false }
+use Rattle.reader.specs.Held.{held, Filled, came}
+use Rattle.reader.specs.declared.place.Place.{Place}
+use Rattle.desklog.specs.Turn.{mostEvents, Went}
 
 -- nothing was ready, and the buffer was filled up
 pub record Read (buf : List ℕ) (p : Place) (buf′ : List ℕ) (p′ : Place) : Type 0 where
   pub none : ready mostEvents (p .ended) (held buf p) ≡ record { count = 0; last = false }
   pub filled : Filled buf p buf′ p′
-
--- what a read brought
-unfoldable pub came : List ℕ → Place → List ℕ → Place → List ℕ
-came buf p buf′ p′ = drop (length (held buf p)) (held buf′ p′)
 
 -- of book b, from buffer, table, room and place on
 pub data Turns (b : List ℕ) : List ℕ → List ℕ → List ℕ → Place → List (List ℕ) → List ℕ → Type 0 where

@@ -1,7 +1,7 @@
 // What is said to whoever starts the program with an argument.
-use libc::STDERR_FILENO;
 use libc::STDOUT_FILENO;
-use names::fold::is_same;
+use reader::argument::is_given;
+use reader::argument::is_help;
 
 // The program's use, in a screenful.
 fn explain() {
@@ -71,18 +71,11 @@ fn explain() {
 
 // Whether there was an argument; the program has none but --help.
 pub fn answered() -> bool {
-    if os::arg_count() < 2 {
+    if !is_given() {
         return false;
     }
-    let mut word = [0u8; 16];
-    let n = os::arg(1, &mut word);
-    if is_same(&word[..n], b"--help") {
+    if is_help(b"desklog: ") {
         explain();
-        return true;
     }
-    io::write_all(
-        STDERR_FILENO,
-        b"desklog: takes no argument but --help, which explains its use\n",
-    );
     true
 }

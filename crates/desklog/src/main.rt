@@ -1,14 +1,12 @@
 // The desk log program: book.bin and a stream of events in, a line for each event and each action out.
-mod book;
-mod buffer;
 mod give;
 mod help;
 mod run;
 mod serve;
 mod turn;
 
-use crate::book::read_book;
 use crate::run::log;
+use reader::book::read_book;
 ghost use mathlib.Core.Path.{_≡_};
 ghost use lib.ListN.{length};
 
@@ -28,6 +26,6 @@ fn main() {
     let mut table = [0u8; 6152];
     let mut buf = io::large_buffer();
     let mut out = room();
-    let n = read_book(&mut book);
+    let n = read_book(&mut book, b"desklog: ");
     log(&mut buf, &mut table, &book[..n], &mut out);
 }

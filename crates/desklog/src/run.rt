@@ -1,10 +1,10 @@
 // The log: the start, and then turn after turn to the end of the stream.
-use crate::book::say_refused;
-use crate::turn::Place;
 use crate::turn::turn;
 use kernel::stewlattice_start;
-use libc::STDOUT_FILENO;
 use log::line::put_start;
+use reader::book::say_unsound;
+use reader::out::flush;
+use reader::place::Place;
 ghost use Prim.Native.Nat.{_≤_};
 ghost use lib.ListN.{length};
 ghost use Rattle.desklog.specs.Turn.{Large};
@@ -24,13 +24,6 @@ fn begin(table: &mut [u8], book: &[u8], out: &mut [u8]) -> usize
         return 0;
     }
     put_start(out, 0, answer)
-}
-
-// Writes the front of the room; false where standard output takes no more.
-fn flush(out: &[u8], filled: usize) -> bool
-    requires { ⌜ filled ≤ length (now out) ⌝ }
-{
-    io::write_all(STDOUT_FILENO, &out[..filled])
 }
 
 fn run(buf: &mut [u8], table: &mut [u8], book: &[u8], out: &mut [u8])
@@ -68,5 +61,5 @@ pub fn log(buf: &mut [u8], table: &mut [u8], book: &[u8], out: &mut [u8])
         return;
     }
     flush(out, said);
-    say_refused(book);
+    say_unsound(book, b"desklog: the start is refused: ");
 }

@@ -1,46 +1,13 @@
 // A turn of the reader: what is ready is given to the kernel, or, where nothing is, the buffer is filled up.
-use crate::buffer::fill;
-use crate::buffer::shift;
 use crate::give::Given;
 use crate::give::give_ready;
+use reader::place::Place;
+use reader::place::refill;
 ghost use mathlib.Core.Path.{_≡_};
 ghost use Prim.Native.Nat.{_+_, _<_};
 ghost use lib.ListN.{length};
-ghost use Rattle.desklog.specs.Turn.{Sound, Ample, Filled, past, Turn};
-
-// The unread bytes of the buffer are those from place up to have.
-pub struct Place {
-    pub place: usize,
-    pub have: usize,
-    // how many events were given
-    pub number: u64,
-    // how much text of this turn lies at the front of the room
-    pub filled: usize,
-    // the end of the stream was seen
-    pub ended: bool,
-    // the last event was given
-    pub done: bool,
-}
-
-// Reads once behind what is unread.
-fn refill(buf: &mut [u8], p: Place) -> Place
-    requires { ⌜ Sound p (length (now buf)) ⌝ }
-    ensures { λ r. ⌜ Filled (now (buf .entry)) p (now (buf .exit)) r ⌝ }
-{
-    let place = p.place;
-    let have = p.have;
-    let unread = have - place;
-    shift(buf, place, have);
-    let got = fill(buf, unread);
-    Place {
-        place: 0,
-        have: unread + got,
-        number: p.number,
-        filled: 0,
-        ended: got == 0,
-        done: false,
-    }
-}
+ghost use Rattle.reader.specs.Held.{Sound};
+ghost use Rattle.desklog.specs.Turn.{Ample, past, Turn};
 
 // The place past the events that were given.
 fn moved(p: Place, given: Given) -> Place

@@ -21,7 +21,7 @@ fn put_number(out: &mut [u8], at: usize, n: u64) -> usize
 }
 
 // A payload behind its space.
-fn put_payload(out: &mut [u8], at: usize, x: &[u8]) -> usize
+pub fn put_payload(out: &mut [u8], at: usize, x: &[u8]) -> usize
     requires { ⌜ at + 2 + 2 * length (now x) ≤ length (now out) ⌝ }
     ensures { λ r. ⌜ Wrote (now (out .entry)) at (payload (now (x .entry))) (now (out .exit)) r ⌝ }
 {

@@ -5,9 +5,9 @@ use mathlib.Core.Path.{_≡_, refl, _∙_}
 use mathlib.Core.List.{List}
 use native.Mathlib.Omega.{arith}
 use lib.ListN.{length}
-use Rattle.desklog.specs.Turn.{mostEvents, Sound, Ample, Large, Turn, gave, read}
-use Rattle.desklog.specs.Turns.{outset}
-use Rattle.desklog.specs.declared.turn.Place.{Place}
+use Rattle.reader.specs.Held.{outset, Sound}
+use Rattle.reader.specs.declared.place.Place.{Place}
+use Rattle.desklog.specs.Turn.{mostEvents, Ample, Large, Turn, gave, read}
 
 -- as many turns as the loop makes at most
 abbrev pub turns : ℕ

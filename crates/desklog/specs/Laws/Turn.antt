@@ -4,8 +4,7 @@ use mathlib.Core.Path.{_≡_, refl, sym, ap, ap₂, subst, _∙_}
 use mathlib.Core.Bool.{Bool, true, false, true≢false}
 use mathlib.Core.List.{List}
 use native.Mathlib.Omega.{arith}
-use lib.ListN.{length, take, drop, length-drop}
-use lib.Seq.{length-take-le, take-add, drop-at, drop-drop}
+use lib.ListN.{length, take, drop}
 use Rattle.names.specs.Laws.Bools.{cases}
 use Rattle.rules.specs.Laws.Over.{over-front, over-past}
 use Rattle.log.specs.Log.{whole, oversized, joined, logFrom}
@@ -13,23 +12,13 @@ use Rattle.log.specs.Inner.{mostText, taken, cut, ready}
 use Rattle.log.specs.Laws.First.{rest-small}
 use Rattle.log.specs.Laws.Ready.{ready-frame, ready-cut, ready-few, cut-large, cut-ended}
 use Rattle.log.specs.Laws.Serving.{many-inside, many-zero, many-filled}
-use Rattle.desklog.specs.Turn.{mostEvents, mostBytes, Sound, Gave, held, Filled, past, Turn, gave, read}
 use Rattle.log.specs.declared.frame.Ready.{Ready}
+use Rattle.reader.specs.Held.{Sound, held, Filled}
+use Rattle.reader.specs.Laws.Fill.{length-held}
+use Rattle.reader.specs.Laws.Past.{held-past}
+use Rattle.reader.specs.declared.place.Place.{Place}
+use Rattle.desklog.specs.Turn.{mostEvents, mostBytes, Gave, past, Turn, gave, read}
 use Rattle.desklog.specs.declared.give.Given.{Given}
-use Rattle.desklog.specs.declared.turn.Place.{Place}
-
-drop-take : (x n : ℕ) (l : List ℕ) → x ≤ n → x ≤ length l → drop x (take n l) ≡ take (n - x) (drop x l)
-drop-take x n l h k =
-    let e : n ≡ x + (n - x) = omega arith in
-    ap (λ m. drop x (take m l)) e ∙ ap (drop x) (take-add x (n - x) l)
-    ∙ drop-at (take x l) (take (n - x) (drop x l)) x (length-take-le x l k)
-
-pub length-held : (buf : List ℕ) (p : Place) → Sound p (length buf) → length (held buf p) ≡ p .have - p .place
-unfolding held
-length-held buf p w =
-    let a = w .ahead in
-    let i = w .inside in
-    length-take-le (p .have - p .place) (drop (p .place) buf) (omega (arith, length-drop (p .place) buf))
 
 -- where nothing is ready, less than an event is held, and the end was not seen
 pub record Waiting (ended : Bool) (s : List ℕ) : Type 0 where
@@ -92,18 +81,10 @@ module _ (buf : List ℕ) (p : Place) {t b o t₁ o₁ : List ℕ} {g : Given}
       omega arith
 
   rest-is : Sound p (length buf)
-      → take (p .have - (p .place + g .served .cursor .place)) (drop (p .place + g .served .cursor .place) buf)
-      ≡ drop (length (joined (taken (g .ready .count) (held buf p)))) (held buf p)
-  unfolding held
+      → held buf (past p g) ≡ drop (length (joined (taken (g .ready .count) (held buf p)))) (held buf p)
+  unfolding past
   rest-is s =
-      let k = g .served .cursor .place in
-      let l = drop (p .place) buf in
-      let h = place-inside s in
-      let i = s .inside in
-      let less : p .have - (p .place + k) ≡ p .have - p .place - k = omega arith in
-      let short : k ≤ length l = omega (arith, length-drop (p .place) buf) in
-      ap₂ (λ (u : ℕ) (x : List ℕ). take u x) less (sym (drop-drop k (p .place) buf))
-      ∙ sym (drop-take k (p .have - p .place) l (omega arith) short)
+      held-past buf p (past p g) (g .served .cursor .place) s (many-inside (w .many)) refl refl
       ∙ ap (λ (u : ℕ). drop u (held buf p)) (w .many .place)
 
   pub turn-gave : {r : Place} → Sound p (length buf) → mostText * mostEvents ≤ length o

@@ -1,10 +1,13 @@
 -- How long words and lines are at most. Assumes nothing.
 use Prim.Native.Nat.{ℕ, _+_, _*_, _≤_}
+use mathlib.Core.Path.{_≡_, refl}
 use mathlib.Core.Bool.{Bool, true, false, cond}
+use mathlib.Core.Logic.{_≢_}
 use mathlib.Core.List.{List, [], _∷_, _++_}
 use native.Mathlib.Omega.{arith}
 use lib.ListN.{length, length-append}
 use lib.Dec.{eqb}
+use borrow.Author.Tests.{ne-eqb}
 use Rattle.rules.specs.Rules.{Frame, frames, Outcome}
 use Rattle.rules.specs.Inner.{size}
 use Rattle.rules.specs.Laws.Frame.{length-frames}
@@ -30,6 +33,14 @@ either false x = let h = length-hex x in omega arith
 pub length-payload : (x : List ℕ) → length (payload x) ≤ 2 + 2 * length x
 unfolding payload
 length-payload x = let h = either (eqb (length x) 0) x in omega arith
+
+pub payload-none : payload [] ≡ 32 ∷ 45 ∷ []
+unfolding payload
+payload-none = refl
+
+pub payload-some : (x : List ℕ) → length x ≢ 0 → length (payload x) ≡ 1 + 2 * length x
+unfolding payload
+payload-some x h = let k = length-hex x in rw (ne-eqb (length x) 0 h) (omega arith)
 
 pub length-start : (n : ℕ) → length (startLine n) ≤ 23
 unfolding startLine

@@ -37,6 +37,10 @@ unfolding digits
 length-digits zero x = omega arith
 length-digits (suc w) x = either (ltb x 10) (48 + x) (48 + x % 10) (digits w (x / 10)) w (length-digits w (x / 10))
 
+pub decimal-one : (x : ℕ) → x < 10 → decimal x ≡ (48 + x) ∷ []
+unfolding decimal
+decimal-one x h = digits-one 20 x (λ e. omega arith) h
+
 pub length-decimal : (x : ℕ) → length (decimal x) ≤ 20
 unfolding decimal
 length-decimal x = length-digits 20 x

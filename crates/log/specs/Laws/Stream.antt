@@ -1,5 +1,5 @@
 -- Laws of a stream's first event and of its events: how long they are, what more bytes behind it change, and that the fuel of
--- `eventsIn` is enough. Assumes nothing.
+-- `eventsIn` is enough; and of byte strings laid end to end. Assumes nothing.
 use Prim.Native.Nat.{ℕ, zero, suc, _+_, _≤_, _<_}
 use mathlib.Core.Path.{_≡_, refl, sym, ap, _∙_}
 use mathlib.Core.Bool.{true, false, cond}
@@ -14,7 +14,7 @@ use borrow.Author.Tests.{le-leb, lt-ltb, eq-eqb}
 use Rattle.names.specs.Laws.Bools.{cases, fails}
 use Rattle.table.specs.Table.{num}
 use Rattle.table.specs.Laws.Num.{num-ext}
-use Rattle.log.specs.Rule.Stream.{whole, oversized, firstBytes, eventsIn, events}
+use Rattle.log.specs.Rule.Stream.{whole, oversized, firstBytes, eventsIn, events, joined}
 use Rattle.log.specs.Laws.First.{Whole, whole-has, Oversized, oversized-has, first-whole, first-oversized, first-rest}
 
 -- ---- the tests put together
@@ -109,3 +109,13 @@ pub events-last : (s : List ℕ) → whole s ≡ false → s ≢ [] → events s
 unfolding events eventsIn
 events-last [] h k = absurd (k refl)
 events-last (x ∷ r) h k = rw (eqb·suc-zero (length r), h)
+
+-- ---- byte strings laid end to end
+
+pub joined-none : joined [] ≡ []
+unfolding joined
+joined-none = refl
+
+pub joined-more : (x : List ℕ) (l : List (List ℕ)) → joined (x ∷ l) ≡ x ++ joined l
+unfolding joined
+joined-more x l = refl

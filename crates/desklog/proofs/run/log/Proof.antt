@@ -30,8 +30,11 @@ flush-requires c κs =
     let r = begun-fits (begun .begin .ensures) (omega (arith, h)) in
     omega (arith, r, begun .begin .kept .1 .1 .0)
 
-say-refused-requires : tie.Need-say-refused-requires
-say-refused-requires c κs = search needs
+slice-aggregate-say-unsound : tie.Need-slice-aggregate-say-unsound
+slice-aggregate-say-unsound c = search needs
+
+say-unsound-requires : tie.Need-say-unsound-requires
+say-unsound-requires c κs = search needs
 
 same-length-4 : tie.Need-same-length-4
 same-length-4 c = search needs
@@ -53,7 +56,8 @@ log-spec =
     same-length-3
     returns
     flush-requires
-    say-refused-requires
+    slice-aggregate-say-unsound
+    say-unsound-requires
     same-length-4
     same-length-5
     returns-2)

@@ -1,0 +1,7 @@
+// What the programs that read an order book and a stream share: book.bin, and standard input, a buffer at a time; standard output;
+// the argument.
+pub mod argument;
+pub mod book;
+mod buffer;
+pub mod out;
+pub mod place;
