@@ -5,28 +5,25 @@
 set -u
 archive=$(realpath -m "${1:-$(dirname "$0")/../target/staticlib/libkernel.a}")
 cd "$(dirname "$0")/.." || exit 1
-work=$(mktemp -d) || exit 1
-trap 'rm -rf "$work"' EXIT
-
-passed=0
-failed=0
-
-# check WHAT COMMAND..: the command must succeed; what it prints is shown if it does not.
-check() {
-    local what=$1
-    shift
-    if "$@" >"$work/said" 2>&1 </dev/null; then
-        passed=$((passed + 1))
-    else
-        failed=$((failed + 1))
-        echo "failed: $what"
-        cat "$work/said"
-    fi
-}
+. tests/check.sh
 
 warnings=(-Wall -Wextra -Wpedantic -Werror)
 
-build() { gcc -std=c11 -O2 "${warnings[@]}" -Iinclude "host/$1.c" "$archive" -o "$work/$1"; }
+build() { gcc -std=c11 -O2 -pthread "${warnings[@]}" -Iinclude "host/$1.c" "$archive" -o "$work/$1"; }
+
+# The example of README.md, as the body of a function.
+readme() {
+    {
+        echo '#include <stewlattice.h>'
+        echo 'void perform(struct stewlattice_head head, const uint8_t *payload);'
+        echo 'void example(const uint8_t *book, size_t book_len, const uint8_t *event, size_t event_len);'
+        echo 'void example(const uint8_t *book, size_t book_len, const uint8_t *event, size_t event_len) {'
+        sed -n '/^## In C/,/^## [^I]/s/^    //p' README.md | grep -v '#include'
+        echo '}'
+    } >"$work/readme.c"
+    grep -q 'stewlattice_step(' "$work/readme.c" &&
+        gcc -std=c11 "${warnings[@]}" -Iinclude -c "$work/readme.c" -o "$work/readme.o"
+}
 
 # The example prints just the expected lines, and ends well.
 example() { "$work/example" >"$work/log" && diff host/example.expected "$work/log"; }
@@ -34,16 +31,22 @@ example() { "$work/example" >"$work/log" && diff host/example.expected "$work/lo
 # No byte outside the lent buffers, which are of exact size, is read or written.
 in_bounds() { valgrind --quiet --error-exitcode=9 --leak-check=full "$work/$1"; }
 
+# None of the header's constants is left out of header.c.
+constants() {
+    diff <(grep -oE 'STEWLATTICE_[A-Z_]+ = ' include/stewlattice.h | sed 's/STEWLATTICE_//; s/ = //' | sort) \
+        <(grep -oE '^IS\([A-Z_]+' host/header.c | sed 's/IS(//' | sort)
+}
+
 # Every global symbol that the archive defines, with its type: two functions and nothing else.
 exports() {
     nm -g --defined-only "$archive" >"$work/nm" || return 1
     diff <(printf 'T stewlattice_start\nT stewlattice_step\n') <(awk 'NF == 3 { print $2, $3 }' "$work/nm" | sort)
 }
 
-# What it calls outside itself: no allocation, no system call, at most the copying and comparing that compilers put in.
+# What it calls outside itself: no allocation, no system call, at most the copying, filling and comparing that compilers put in.
 imports() {
     nm -g --undefined-only "$archive" >"$work/nm" || return 1
-    ! awk 'NF == 2 { print $2 }' "$work/nm" | grep -vxE 'mem(cpy|move|set|cmp|chr)|bcmp|_GLOBAL_OFFSET_TABLE_'
+    ! awk 'NF == 2 { print $2 }' "$work/nm" | grep -vxE 'mem(cpy|move|set|cmp)'
 }
 
 # Nothing is kept between calls: no section that can be written has a byte.
@@ -54,15 +57,20 @@ stateless() {
 
 check 'the header alone, in C11' gcc -std=c11 "${warnings[@]}" -fsyntax-only -x c include/stewlattice.h
 check 'the header alone, in C++17' g++ -std=c++17 "${warnings[@]}" -fsyntax-only -x c++ include/stewlattice.h
+check 'the constants of the header' gcc -std=c11 "${warnings[@]}" -Iinclude -fsyntax-only host/header.c
+check 'each constant of the header is held to its number' constants
 check "the archive $archive is there" test -s "$archive"
 check 'the archive defines start and step only' exports
 check 'the archive calls nothing outside itself' imports
 check 'the archive has no state' stateless
+check 'the example of README.md builds' readme
 check 'the example builds' build example
 check 'the example prints the worked example' example
 check 'the example stays in its buffers' in_bounds example
 check 'the boundary cases build' build boundary
 check 'the boundary cases' "$work/boundary"
 check 'the boundary cases stay in their buffers' in_bounds boundary
-echo "$passed passed, $failed failed"
-((failed == 0 && passed > 0))
+check 'the threads build' build threads
+check 'eight threads get what one gets' "$work/threads"
+check 'the threads share nothing that is written' valgrind --tool=helgrind --quiet --error-exitcode=9 "$work/threads" 100
+closing

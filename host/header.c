@@ -1,0 +1,72 @@
+/* The constants of the header, each held to the number that document 01 gives it. It is built, not run. */
+#include "stewlattice.h"
+
+#define IS(name, number) _Static_assert(STEWLATTICE_##name == (number), #name)
+
+/* sizes, lengths and counts */
+IS(TABLE_SIZE, 6152);
+IS(ROOM_LEAST, 4106);
+IS(HEAD_SIZE, 10);
+IS(PAYLOAD_MOST, 4096);
+IS(BOOK_LEAST, 8);
+IS(BOOK_MOST, 32768);
+IS(NAME_MOST, 253);
+IS(LISTED_MOST, 62);
+IS(SUFFIX_MOST, 64);
+IS(URL_MOST, 2048);
+IS(SEATS, 8);
+IS(SLOTS, 10);
+IS(PROCESS_ROWS, 80);
+IS(OPENS_MOST, 65535);
+IS(ACTIONS_MOST, 4);
+
+/* parties */
+IS(SEAT, 1);
+IS(TAB, 2);
+IS(PROCESS, 3);
+IS(NETWORK, 4);
+IS(HOST, 5);
+
+/* "Event from" */
+IS(FROM_SEAT_KEY, 1);
+IS(FROM_SEAT_MOUSE, 2);
+IS(FROM_SEAT_OPEN, 3);
+IS(FROM_TAB_DISPLAY, 1);
+IS(FROM_TAB_SOCKET, 2);
+IS(FROM_TAB_URL, 3);
+IS(FROM_TAB_STORE, 4);
+IS(FROM_TAB_RETRIEVE, 5);
+IS(FROM_PROCESS_RESULT, 1);
+IS(FROM_NETWORK_DOCUMENT, 1);
+
+/* "Action to" */
+IS(TO_SEAT_BAR, 1);
+IS(TO_SEAT_PAINT, 2);
+IS(TO_TAB_GO, 1);
+IS(TO_TAB_RENDER, 2);
+IS(TO_TAB_KEY, 3);
+IS(TO_TAB_MOUSE, 4);
+IS(TO_TAB_ERROR, 5);
+IS(TO_TAB_DOCUMENT, 6);
+IS(TO_TAB_COOKIE, 7);
+IS(TO_PROCESS_SET, 1);
+IS(TO_PROCESS_GET, 2);
+IS(TO_NETWORK_FETCH, 1);
+IS(TO_HOST_START_TAB, 1);
+IS(TO_HOST_STOP_TAB, 2);
+IS(TO_HOST_START_PROCESS, 3);
+IS(TO_HOST_STOP_PROCESS, 4);
+IS(TO_HOST_OPEN_SOCKET, 5);
+
+/* "Numbers given back" */
+IS(DONE, 0);
+IS(SHORT_ROOM, 1);
+IS(BAD_TABLE, 2);
+IS(BAD_FRAME, 3);
+IS(NO_SENDER, 4);
+IS(BAD_KEY, 5);
+IS(BAD_BOOK, 6);
+IS(BAD_SUFFIX, 7);
+IS(FULL_SEAT, 8);
+IS(SPENT_SEAT, 9);
+IS(NOT_AWAITED, 10);
