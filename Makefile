@@ -7,12 +7,18 @@
 # make fuzz       fuzz for TIME seconds, 60 unless set, from the corpus on
 # make bench      print docs/BENCH.md: what a step costs, beside plain C and the reference; the desk log beside the kernel
 # make fmt        lay the Rattle files out
-# make install    put library, header, programs and manual pages under PREFIX (/usr/local), DESTDIR before it if set
+# make install    put library, header, programs, manual pages and the rules under PREFIX (/usr/local), DESTDIR before it if set
 # make uninstall  take them away again
+# Standard output has what is asked for, and standard error how far rt is, crate by crate. CC names another compiler than gcc.
+SHELL = bash
+.SHELLFLAGS = -o pipefail -c
 ARCHIVE = target/staticlib/libkernel.a
 REFERENCE = target/rust/release/libreference_c.a
 PROGRAMS = desklog asksuffix
 TIME = 60
+ifeq ($(origin CC),default)
+CC = gcc
+endif
 
 .PHONY: all run host day test mutants fuzz bench fmt clean archive program reference always
 .NOTPARALLEL: # rt has jobs of its own, and target/ is for one rt at a time
@@ -20,19 +26,26 @@ TIME = 60
 all: archive
 	rt check
 
+# $(call prove,WORDS,LOG): runs rt with these words. All that it says is in the log, and is shown if it fails; until then a line for
+# each crate that had to be proved.
+define prove
+	@mkdir -p target
+	@[[ -e target/stamp ]] || echo 'nothing is proved yet: this takes some minutes' >&2
+	@rt $(1) 2>&1 | tee target/$(2).log | sed -un '/(unchanged/d; /^rt: /p' >&2 || { cat target/$(2).log >&2; exit 1; }
+endef
+
 archive: $(ARCHIVE)
 
 # rt staticlib proves at each call; rt check only what has changed, and else it leaves the library's file as it is.
 $(ARCHIVE): target/rlib/kernel.rlib
-	@rt staticlib kernel >target/archive.log || { cat target/archive.log; exit 1; }
+	@echo 'the kernel is proved once more, for the library that C links' >&2
+	$(call prove,staticlib kernel,archive)
 
 target/rlib/kernel.rlib: always
-	@mkdir -p target
-	@rt check kernel >target/kernel.log || { cat target/kernel.log; exit 1; }
+	$(call prove,check kernel,kernel)
 
 program:
-	@mkdir -p target
-	@rt check $(PROGRAMS) >target/program.log || { cat target/program.log; exit 1; }
+	$(call prove,check $(PROGRAMS),program)
 
 reference:
 	@cargo build --quiet --release --offline --manifest-path reference/c/Cargo.toml --target-dir target/rust
@@ -41,8 +54,8 @@ run: program
 	@cd crates/desklog/data && ../../../target/bin/desklog <../stdin
 
 host: archive
-	gcc -std=c11 -O2 -Wall -Wextra -Wpedantic -Werror -Iinclude host/example.c $(ARCHIVE) -o target/example
-	target/example
+	@set -x; $(CC) -std=c11 -O2 -Wall -Wextra -Wpedantic -Werror -Iinclude host/example.c $(ARCHIVE) -o target/example
+	@target/example
 
 day: archive
 	@$(MAKE) -s -C host/day

@@ -180,7 +180,7 @@ uint64_t stewlattice_start(uint8_t *table, size_t table_len, const uint8_t *book
     for (size_t i = 0; i < book[book_len - 6]; i++) {
         uint8_t *record = seat_at(table, book[3 * i]);
         record[TENANT] = book[3 * i + 1];
-        record[SEPARATE] = book[3 * i + 2];
+        record[OPTIONS] = book[3 * i + 2];
     }
     stewlattice_put(table + TRAILER + 2, 2, PROCESSES);
     return STEWLATTICE_DONE;

@@ -8,7 +8,7 @@
 enum {
     SEAT_SIZE = 48,
     TENANT = 0,
-    SEPARATE = 1,
+    OPTIONS = 1,
     SELECTED = 2,
     SEAT_ZERO = 3,
     OPENS = 4,
@@ -42,7 +42,7 @@ static inline uint8_t *tab_at(uint8_t *seat, unsigned slot) { return seat + TABS
 static inline uint8_t *process_at(uint8_t *table, unsigned row) { return table + PROCESSES + (row - 1) * PROCESS_SIZE; }
 
 static inline unsigned owner_of(const uint8_t *seat, unsigned number) {
-    return seat[SEPARATE] ? 100 + number : seat[TENANT];
+    return seat[OPTIONS] & 1 ? 100 + number : seat[TENANT];
 }
 
 /* len is at most PROCESS_SIZE. */
@@ -71,7 +71,7 @@ static inline bool seat_sound(uint8_t *table, unsigned number, unsigned *counts)
     unsigned map = get16(seat + MAP), selected = seat[SELECTED];
     if (seat[TENANT] == 0)
         return all_zero(seat, SEAT_SIZE);
-    if (seat[TENANT] > 99 || seat[SEPARATE] > 1 || selected > STEWLATTICE_SLOTS || seat[SEAT_ZERO] != 0)
+    if (seat[TENANT] > 99 || seat[OPTIONS] > 1 || selected > STEWLATTICE_SLOTS || seat[SEAT_ZERO] != 0)
         return false;
     if (map >> STEWLATTICE_SLOTS != 0 || (selected != 0 && !(map >> (selected - 1) & 1)))
         return false;

@@ -27,7 +27,7 @@ PATCHES = {
     'seat-let': {SEAT_3: b'\x63\1'},
     'name-of-64': {ROW_1 + 6: b'\x40\0a.' + b'b' * 62},
     'tenant': {SEAT_3: b'\x64'},
-    'separate': {SEAT_3: b'\1\2'},
+    'options': {SEAT_3: b'\1\2'},
     'selected': {SEAT_1 + 2: b'\x0b'},
     'selected-free': {SEAT_1 + 2: b'\2'},
     'seat-zero': {SEAT_1 + 3: b'\1'},

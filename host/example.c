@@ -1,6 +1,6 @@
 /* A small host: it replays the worked example of document 01 and prints the desk log, a line for each event and action.
- * Seats, tabs, processes and the network are played by main; a real host has channels to them, and does what it prints
- * here. */
+ * The function play stands in for seats, tabs and processes; a real host has channels to them and to the network, and does
+ * what it prints here. */
 #include "stewlattice.h"
 #include <inttypes.h>
 #include <stdio.h>
@@ -81,10 +81,20 @@ static void give_cookie(struct host *host, uint32_t process, uint32_t tab, const
     free(payload);
 }
 
+static void play(struct host *host) {
+    uint32_t tab = stewlattice_tab_id(1, 1); /* the first tab of seat 1 */
+    open_tab(host, 1, "a.com");
+    retrieve(host, tab, "www.a.com");
+    open_tab(host, 2, "A.com");
+    give_cookie(host, 2, tab, "x"); /* of another owner: refused */
+    give_cookie(host, 1, tab, "k=v");
+    press(host, 1, 25); /* F12 */
+}
+
 int main(void) {
     static const uint8_t orders[] = {
-        1, 7,   1,                   /* seat 1, tenant 7, separate 1 */
-        2, 7,   0,                   /* seat 2, tenant 7, separate 0 */
+        1, 7,   1,                   /* seat 1, tenant 7, options 1: separate */
+        2, 7,   0,                   /* seat 2, tenant 7, options 0 */
         3, 'c', 'o', 'm',            /* one listed name */
         0, 0,   2,   0,   0, 6, 0, 1 /* orders at 0, two of them, zero, names at 6, one of them */
     };
@@ -92,21 +102,13 @@ int main(void) {
                         sizeof orders, 0};
     memcpy(host.book, orders, sizeof orders);
     uint64_t answer = stewlattice_start(host.table, STEWLATTICE_TABLE_SIZE, host.book, host.book_len);
-    if (stewlattice_number(answer) != STEWLATTICE_DONE) {
-        printf("S %u\n", (unsigned)stewlattice_number(answer));
-        return EXIT_FAILURE;
-    }
-
-    uint32_t tab = stewlattice_tab_id(1, 1); /* the first tab of seat 1 */
-    open_tab(&host, 1, "a.com");
-    retrieve(&host, tab, "www.a.com");
-    open_tab(&host, 2, "A.com");
-    give_cookie(&host, 2, tab, "x"); /* of another owner: refused */
-    give_cookie(&host, 1, tab, "k=v");
-    press(&host, 1, 25); /* F12 */
-
+    enum stewlattice_numbers number = stewlattice_number(answer);
+    if (number == STEWLATTICE_DONE)
+        play(&host);
+    else
+        printf("S %u\n", (unsigned)number);
     free(host.table);
     free(host.room);
     free(host.book);
-    return EXIT_SUCCESS;
+    return number == STEWLATTICE_DONE ? EXIT_SUCCESS : EXIT_FAILURE;
 }

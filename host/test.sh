@@ -31,10 +31,17 @@ example() { "$work/example" >"$work/log" && diff host/example.expected "$work/lo
 # No byte outside the lent buffers, which are of exact size, is read or written.
 in_bounds() { valgrind --quiet --error-exitcode=9 --leak-check=full "$work/$1"; }
 
-# None of the header's constants is left out of header.c.
+# None of the header's constants is left out of header.c, but for those of the version.
 constants() {
-    diff <(grep -oE 'STEWLATTICE_[A-Z_]+ = ' include/stewlattice.h | sed 's/STEWLATTICE_//; s/ = //' | sort) \
+    diff <(sed -nE '/_VERSION/d; s/^(#define|   ) STEWLATTICE_([A-Z_]+) .*/\2/p' include/stewlattice.h | sort) \
         <(grep -oE '^IS\([A-Z_]+' host/header.c | sed 's/IS(//' | sort)
+}
+
+# The header's version is that of the file VERSION, in one piece and in three.
+version() {
+    local text=STEWLATTICE_VERSION
+    printf '%s\n' '#include <stewlattice.h>' "$text" "$text"_{MAJOR,MINOR,PATCH} | gcc -E -P -Iinclude - >"$work/version" &&
+        diff <(echo "\"$(cat VERSION)\""; tr . '\n' <VERSION) <(tail -n 4 "$work/version")
 }
 
 # Every global symbol that the archive defines, with its type: two functions and nothing else.
@@ -59,6 +66,7 @@ check 'the header alone, in C11' gcc -std=c11 "${warnings[@]}" -fsyntax-only -x 
 check 'the header alone, in C++17' g++ -std=c++17 "${warnings[@]}" -fsyntax-only -x c++ include/stewlattice.h
 check 'the constants of the header' gcc -std=c11 "${warnings[@]}" -Iinclude -fsyntax-only host/header.c
 check 'each constant of the header is held to its number' constants
+check 'the version of the header' version
 check "the archive $archive is there" test -s "$archive"
 check 'the archive defines start and step only' exports
 check 'the archive calls nothing outside itself' imports

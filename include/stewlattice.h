@@ -1,8 +1,8 @@
 /* Stewlattice for the author of a C host: two calls over memory that the host lends (x86-64, System V).
  *
  * The host renders, fetches, stores and runs the processes; the kernel decides. The host lays each event out as a
- * frame, calls stewlattice_step, and does what the actions in the output room say, in their order. Document 01 has the
- * rules.
+ * frame, calls stewlattice_step, and does what the actions in the output room say, in their order. RULES.md has the
+ * rules: docs/ in the repository, share/doc/stewlattice/ where it is installed; its section 17 is for hosts.
  *
  * Memory: the caller lends everything. The kernel allocates nothing, has no global state, makes no system call and
  * keeps no pointer between calls. Lent buffers need no alignment. What is lent to one call must not overlap. A pointer
@@ -31,6 +31,12 @@
 
 #include <stddef.h>
 #include <stdint.h>
+
+/* The version of the header and of the library beside it, for people and for #if. */
+#define STEWLATTICE_VERSION "0.7.0"
+#define STEWLATTICE_VERSION_MAJOR 0
+#define STEWLATTICE_VERSION_MINOR 7
+#define STEWLATTICE_VERSION_PATCH 0
 
 #ifdef __cplusplus
 extern "C" {

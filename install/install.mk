@@ -8,6 +8,7 @@ libdir ?= $(PREFIX)/lib
 includedir ?= $(PREFIX)/include
 mandir ?= $(PREFIX)/share/man
 pkgconfigdir ?= $(libdir)/pkgconfig
+docdir ?= $(PREFIX)/share/doc/stewlattice
 
 MAN1 = $(PROGRAMS:%=%.1)
 MAN3 = stewlattice.3 stewlattice_start.3 stewlattice_step.3
@@ -20,15 +21,17 @@ install: archive program
 	    -e 's|@INCLUDEDIR@|$(includedir:$(PREFIX)/%=$${prefix}/%)|' -e "s|@VERSION@|$$(cat VERSION)|" \
 	    install/stewlattice.pc.in >target/stewlattice.pc
 	umask 022 && mkdir -p "$(DESTDIR)$(bindir)" "$(DESTDIR)$(libdir)" "$(DESTDIR)$(includedir)" \
-	    "$(DESTDIR)$(pkgconfigdir)" "$(DESTDIR)$(mandir)/man1" "$(DESTDIR)$(mandir)/man3"
+	    "$(DESTDIR)$(pkgconfigdir)" "$(DESTDIR)$(mandir)/man1" "$(DESTDIR)$(mandir)/man3" "$(DESTDIR)$(docdir)"
 	install -m 755 $(PROGRAMS:%=target/bin/%) "$(DESTDIR)$(bindir)"
 	install -m 644 $(ARCHIVE) "$(DESTDIR)$(libdir)/libstewlattice.a"
 	install -m 644 include/stewlattice.h "$(DESTDIR)$(includedir)"
 	install -m 644 target/stewlattice.pc "$(DESTDIR)$(pkgconfigdir)"
 	install -m 644 $(MAN1:%=install/man/%) "$(DESTDIR)$(mandir)/man1"
 	install -m 644 $(MAN3:%=install/man/%) "$(DESTDIR)$(mandir)/man3"
+	install -m 644 docs/RULES.md "$(DESTDIR)$(docdir)"
 
 uninstall:
 	rm -f $(patsubst %,"$(DESTDIR)$(bindir)/%",$(PROGRAMS)) "$(DESTDIR)$(libdir)/libstewlattice.a" \
 	    "$(DESTDIR)$(includedir)/stewlattice.h" "$(DESTDIR)$(pkgconfigdir)/stewlattice.pc" \
-	    $(patsubst %,"$(DESTDIR)$(mandir)/man1/%",$(MAN1)) $(patsubst %,"$(DESTDIR)$(mandir)/man3/%",$(MAN3))
+	    $(patsubst %,"$(DESTDIR)$(mandir)/man1/%",$(MAN1)) $(patsubst %,"$(DESTDIR)$(mandir)/man3/%",$(MAN3)) \
+	    "$(DESTDIR)$(docdir)/RULES.md"

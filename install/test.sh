@@ -1,21 +1,25 @@
 #!/usr/bin/env bash
-# The installation: what is put where, what a C programmer and support can do with it, what is left when it is gone.
-# Everything is put under a temporary folder. Assumes make, rt, cc, c++, pkg-config, groff and man.
+# The commands for newcomers; and the installation: what is put where, what a C programmer and support can do with it, what is left
+# when it is gone. Everything is put under a temporary folder. Assumes make, rt, cc, c++, pkg-config, groff and man.
 # The last line is 'N passed, M failed'; the exit status is 0 only if nothing failed.
 set -u
 cd "$(dirname "$0")/.." || exit 1
 . tests/check.sh
-unset MAKEFLAGS DESTDIR PREFIX bindir libdir includedir mandir pkgconfigdir
+unset MAKEFLAGS CC DESTDIR PREFIX bindir libdir includedir mandir pkgconfigdir docdir
 at=$work/plain
 away=$work/away
 mkdir "$away"
 export LC_ALL=C.UTF-8 PATH=$at/bin:$PATH PKG_CONFIG_PATH=$at/lib/pkgconfig
 . install/pages.sh
 
-# holds FOLDER BIN LIB INCLUDE MAN PKGCONFIG: the folder has just the files of an installation, with their modes.
+# prints EXPECTED GOAL: make prints just that on its standard output, whatever rt says meanwhile.
+prints() { make "$2" | diff "$1" -; }
+
+# holds FOLDER BIN LIB INCLUDE MAN PKGCONFIG DOC: the folder has just the files of an installation, with their modes.
 holds() {
     printf '%s\n' "$2/"{asksuffix,desklog}' 755' "$3/libstewlattice.a 644" "$4/stewlattice.h 644" \
-        "$5/man1/"{asksuffix,desklog}'.1 644' "$5/man3/stewlattice"{,_start,_step}'.3 644' "$6/stewlattice.pc 644" |
+        "$5/man1/"{asksuffix,desklog}'.1 644' "$5/man3/stewlattice"{,_start,_step}'.3 644' "$6/stewlattice.pc 644" \
+        "$7/RULES.md 644" |
         sort | diff - <(cd "$1" && find . ! -type d -printf '%P %m\n' | sort)
 }
 
@@ -26,7 +30,8 @@ closed() { (umask 077 && make install PREFIX="$at") && ! find "$at" -type d ! -p
 state() { (cd "$at" && find . -type f -exec sha256sum {} + | sort) && stat -c '%n %y' target/*lib/*; }
 again() { state >"$work/state" && make install PREFIX="$at" && state | diff "$work/state" -; }
 
-version() { test "$(pkg-config --modversion stewlattice)" = "$(cat VERSION)"; }
+# The pkg-config file and the header have the version of the file VERSION.
+version() { test "$(pkg-config --modversion stewlattice)" = "$(cat VERSION)" && grep "VERSION \"$(cat VERSION)\"" "$header"; }
 desk() { diff crates/desklog/stdout <(cd crates/desklog/data && desklog <../stdin); }
 
 # build COMMAND [OPTIONS..]: a program is built outside the tree, with what pkg-config says and no more. The shell has
@@ -40,7 +45,7 @@ stage=$work/stage
 staged() { ! grep -rl "$work" "$stage" && test "$(pkg-config --variable=libdir stewlattice)" = /opt/desks/lib; }
 
 spaced=$work/'a b'
-own=("DESTDIR=$work/own" bindir=/b libdir=/l includedir=/i mandir=/m pkgconfigdir=/p)
+own=("DESTDIR=$work/own" bindir=/b libdir=/l includedir=/i mandir=/m pkgconfigdir=/p docdir=/d)
 own_pc() { test "$(pkg-config --cflags --libs stewlattice)" = '-I/i -L/l -lstewlattice '; }
 relative() { make install DESTDIR="$work/relative/" PREFIX=out 2>&1 | grep 'absolute' && test ! -e "$work/relative"; }
 
@@ -51,8 +56,12 @@ foreign() {
     make uninstall PREFIX="$at" && find "$at" | sort | diff "$work/foreign" -
 }
 
+check 'make run' prints crates/desklog/stdout run
+check 'make host' prints host/example.expected host
+check 'make day' prints host/day/expected day
 check 'make install' closed
-check 'the files and their modes' holds "$at" bin lib include share/man lib/pkgconfig
+check 'the files and their modes' holds "$at" bin lib include share/man lib/pkgconfig share/doc/stewlattice
+check 'the rules are those of the repository' cmp docs/RULES.md "$at/share/doc/stewlattice/RULES.md"
 check 'make install again' again
 check 'the version' version
 check 'desklog prints the worked example' desk
@@ -81,14 +90,14 @@ check 'the example, in strict C11' build "cc -std=c11 $strict example.c"
 check 'the example, in strict C++17' build "c++ -std=c++17 $strict example.cc"
 check 'the example host' host
 check 'make install with DESTDIR' make install DESTDIR="$stage" PREFIX=/opt/desks
-check 'the files under DESTDIR' holds "$stage" opt/desks/{bin,lib,include,share/man,lib/pkgconfig}
+check 'the files under DESTDIR' holds "$stage" opt/desks/{bin,lib,include,share/man,lib/pkgconfig,share/doc/stewlattice}
 PKG_CONFIG_PATH=$stage/opt/desks/lib/pkgconfig check 'the place they are meant for' staged
 PKG_CONFIG_PATH=$stage/opt/desks/lib/pkgconfig check 'the example host, from DESTDIR' host --define-prefix
 check 'make install below a path with a space' make install PREFIX="$spaced"
-check 'the files below it' holds "$spaced" bin lib include share/man lib/pkgconfig
+check 'the files below it' holds "$spaced" bin lib include share/man lib/pkgconfig share/doc/stewlattice
 PKG_CONFIG_PATH=$spaced/lib/pkgconfig check 'the example host, from there' host
 check 'make install with directories of its own' make install "${own[@]}"
-check 'the files in them' holds "$work/own" b l i m p
+check 'the files in them' holds "$work/own" b l i m p d
 PKG_CONFIG_PATH=$work/own/p check 'what pkg-config says of them' own_pc
 check 'a relative PREFIX is refused' relative
 check 'make uninstall from directories of its own' make uninstall "${own[@]}"

@@ -5,14 +5,14 @@ usage: tests/asksuffix.py [PROGRAM]     the program is target/bin/asksuffix unle
 
 The last line is 'N passed, M failed'; the exit status is 0 only if nothing failed.
 """
-import os
+import errno
+import re
+import subprocess
 import sys
 
 sys.dont_write_bytecode = True
-from checks import check, closed, closing, prompt, steady, usage
+from checks import check, closed, closing, failing, prompt, steady, unread, usage
 from desk import Desk, shim as built
-
-CUT = b'asksuffix: the stream ends within a host\n'
 
 
 def book(*names):
@@ -23,6 +23,17 @@ def book(*names):
 
 def host(name):
     return len(name).to_bytes(2, 'big') + name
+
+
+def cut(rest, hosts):
+    """What is said of a host that is cut short: the bytes of it that came, after so many whole ones."""
+    size, came = rest[:2], len(rest) - 2
+    seen = f'its first two bytes, hex {size.hex()}, ask for {int.from_bytes(size, "big")} more; {came} came'
+    return f"""asksuffix: the stream ends within a host, after {hosts} that were whole
+asksuffix: {seen if came >= 0 else 'it has one byte, and its length takes two'}
+asksuffix: a host is no line of text: 2 bytes, big-endian, say how many
+asksuffix: bytes follow, as in printf '\\0\\11www.a.com' | asksuffix
+""".encode()
 
 
 def line(part):
@@ -73,9 +84,24 @@ def cut_ends():
     for length in range(len(stream) + 1):
         whole = max(end for end in ends if end <= length)
         said = desk.log(stream[:length])
-        check(f'cut at {length}', said == (answers[whole], b'' if whole == length else CUT, 0), said)
-    said = desk.log(host(b'b.uk') + host(b'.' * 65535)[:-1])
-    check('the longest host cut short by a byte', said == (line(b'b.uk'), CUT, 0), said)
+        told = cut(stream[whole:length], ends.index(whole)) if whole < length else b''
+        check(f'cut at {length}', said == (answers[whole], told, 0), said)
+    longest = host(b'.' * 65535)[:-1]
+    said = desk.log(host(b'b.uk') + longest)
+    check('the longest host cut short by a byte', said == (line(b'b.uk'), cut(longest, 1), 0), said)
+
+
+def typed():
+    """Whoever types a name as a line is told what is wanted instead, with a command that makes it; so does --help."""
+    desk = Desk(BOOK)
+    out, err, status = desk.log(b'www.a.com\n')
+    check('a line of text', (out, err, status) == (b'', cut(b'www.a.com\n', 0), 0), (out, err))
+    for what, said in (('the hint', err), ('--help', desk.log(None, '--help')[0])):
+        command = re.search(rb"printf '[^']*'", said)
+        check(f'{what} has a command', command, said)
+        made = subprocess.run(['sh', '-c', command[0]], stdout=subprocess.PIPE, check=True).stdout if command else b''
+        said = desk.log(made)
+        check(f'the command of {what}', said == (line(b'a.com'), b'', 0), (made, said))
 
 
 def books():
@@ -98,14 +124,11 @@ def books():
 
 
 def ends(shim):
-    """A read that fails ends the stream as its end would; so does no standard input at all."""
-    desk = Desk(BOOK)
-    for came, want in ((13, (line(b'b.co.uk'), b'', 0)), (14, (line(b'b.co.uk'), CUT, 0)), (5, (b'', CUT, 0))):
+    """A read that fails ends the stream as its end would, and is told."""
+    desk, first = Desk(BOOK), line(b'b.co.uk')
+    for came, out, told in ((13, first, b''), (14, first, cut(STREAM[13:14], 1)), (5, b'', cut(STREAM[:5], 0))):
         said = desk.log(STREAM, env={'LD_PRELOAD': shim, 'READ_FAILS': str(came)})
-        check(f'a read that fails after {came} bytes', said == want, said)
-    run = desk.start(preexec_fn=lambda: os.close(0))
-    said = run.stdout.read(), run.stderr.read(), run.wait()
-    check('no standard input', said == (b'', b'', 0), said)
+        check(f'a read that fails after {came} bytes', said == (out, unread(errno.EIO) + told, 0), said)
 
 
 shim = built()
@@ -115,6 +138,8 @@ books()
 ends(shim)
 prompt(BOOK, [(host(name), line(part)) for name, part in KNOWN])
 closed(BOOK, host(b'b.uk'))
+failing(BOOK, host(b'b.uk'))
+typed()
 usage()
 longest = line(b'b.uk') + line(b'')
 steady(BOOK, (b'', b''), host(long_name(253)) + host(b'.' * 65535), lambda n: longest, 100)

@@ -1,12 +1,14 @@
 """Checks that are counted, and those that every program of a book and a stream is held to: whoever feeds it gets each answer at
-once, an output that is closed early ends it quietly, memory does not grow, and it explains itself."""
+once, an output that is closed early ends it, what cannot be read or written is told, memory does not grow, and it explains
+itself."""
+import errno
 import os
 import select
 import signal
 import sys
 import threading
 
-from desk import Desk, memory, temporary, write
+from desk import HERE, NAME, Desk, memory, temporary, write
 
 passed = failed = 0
 
@@ -42,28 +44,59 @@ def prompt(book, pieces):
     check('nothing after the last piece', run.stdout.read() == b'' and run.wait() == 0)
 
 
+def unread(error):
+    """What is said of a read of standard input that failed."""
+    return f'{NAME}: standard input cannot be read: {os.strerror(error)}\n'.encode()
+
+
+def unwritten(error):
+    """What is said of a write to standard output that failed."""
+    return f'{NAME}: standard output cannot be written: {os.strerror(error)}\n'.encode()
+
+
 def closed(book, piece):
-    """Where standard output is closed early the program ends quietly, by the signal or without it."""
-    for what, action in (('by the signal', signal.SIG_DFL), ('the signal ignored', signal.SIG_IGN)):
+    """Where standard output is closed early the program ends, by the signal; or without it, and says so in a line."""
+    for what, action, want in (('by the signal', signal.SIG_DFL, (b'', -signal.SIGPIPE)),
+                               ('the signal ignored', signal.SIG_IGN, (unwritten(errno.EPIPE), 0))):
         many = temporary(piece * 200000)
         run = Desk(book).start(preexec_fn=lambda: signal.signal(signal.SIGPIPE, action), stdin=many)
         run.stdout.read(10)
         run.stdout.close()
-        err = run.stderr.read()
-        quiet = run.wait(20) in (0, -signal.SIGPIPE) and err == b''
-        check(f'standard output closed, {what}', quiet, (run.returncode, err))
+        said = run.stderr.read(), run.wait(20)
+        check(f'standard output closed early, {what}', said == want, said)
+
+
+def failing(book, piece):
+    """A standard output that takes nothing is told, once, also where the program only explains itself; and so is a standard
+    input that cannot be read."""
+    desk = Desk(book)
+    for args in ((), ('--help',), ('--version',)):
+        with open('/dev/full', 'wb') as full:
+            said = desk.log(piece * 3, *args, stdout=full)
+        check(f'standard output full, {args}', said == (None, unwritten(errno.ENOSPC), 0), said)
+        said = desk.log(piece * 3, *args, preexec_fn=lambda: os.close(1))
+        check(f'no standard output, {args}', said == (b'', unwritten(errno.EBADF), 0), said)
+    said = desk.log(None, stdin=os.open('/', os.O_RDONLY))
+    check('standard input is a directory', said == (b'', unread(errno.EISDIR), 0), said)
+    said = desk.log(None, stdin=None, preexec_fn=lambda: os.close(0))
+    check('no standard input', said == (b'', unread(errno.EBADF), 0), said)
 
 
 def usage():
-    """--help explains itself on standard output; any other argument is answered in a line on standard error."""
+    """--help and --version are answered on standard output, and any other argument, or more of them, in a line on standard
+    error."""
     desk = Desk(None)
-    run = desk.start('--help')
-    out, err = run.communicate()
-    check('--help', run.returncode == 0 and err == b'' and 8 < out.count(b'\n') <= 24 and b'book.bin' in out, out)
+    out, err, status = desk.log(None, '--help')
+    check('--help', status == 0 and err == b'' and 8 < out.count(b'\n') <= 24 and b'book.bin' in out, out)
     check('--help fits a screen', max(map(len, out.split(b'\n'))) <= 88, out)
-    for word in ('-h', '--helpless', 'book.bin', ''):
-        out, err = desk.start(word).communicate()
-        check(f'argument {word!r}', out == b'' and err.count(b'\n') == 1 and b'--help' in err, (out, err))
+    said = desk.log(None, '--version')
+    version = (HERE.parent / 'VERSION').read_text().strip()
+    check('--version', said == (f'{NAME} {version}\n'.encode(), b'', 0), said)
+    for args in (['-h'], ['--HELP'], ['--Help'], ['--helpless'], ['--hel'], ['--VERSION'], ['--version='], ['book.bin'], [''],
+                 ['-' * 17], ['--help', '--help'], ['--help', ''], ['--version', 'x'], ['x', '--help'], ['', '', '']):
+        out, err, status = desk.log(None, *args)
+        told = err.startswith(NAME.encode()) and err.count(b'\n') == 1 and b'--help' in err and b'--version' in err
+        check(f'arguments {args}', out == b'' and told and status == 0, (out, err))
 
 
 def streamed(book, first, piece, lines, size):

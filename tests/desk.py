@@ -10,7 +10,8 @@ import threading
 
 HERE = pathlib.Path(__file__).resolve().parent
 # the program that is named, or else the one of the test's own name
-OWN = HERE.parent / 'target/bin' / pathlib.Path(sys.argv[0]).stem
+NAME = pathlib.Path(sys.argv[0]).stem
+OWN = HERE.parent / 'target/bin' / NAME
 PROGRAM = pathlib.Path(sys.argv[1] if len(sys.argv) > 1 else OWN).resolve()
 VECTORS = HERE / 'vectors'
 WORK = tempfile.mkdtemp()
@@ -29,13 +30,13 @@ class Desk:
         if book is not None:
             (self.folder / 'book.bin').write_bytes(book)
 
-    def start(self, *args, env=None, stdin=subprocess.PIPE, **more):
-        return subprocess.Popen([PROGRAM, *args], cwd=self.folder, stdin=stdin, stdout=subprocess.PIPE, stderr=subprocess.PIPE,
+    def start(self, *args, env=None, stdin=subprocess.PIPE, stdout=subprocess.PIPE, **more):
+        return subprocess.Popen([PROGRAM, *args], cwd=self.folder, stdin=stdin, stdout=stdout, stderr=subprocess.PIPE,
                                 env={**os.environ, **(env or {})}, **more)
 
-    def log(self, events, **more):
+    def log(self, events, *args, **more):
         """What the program writes to its two outputs, and its status."""
-        run = self.start(**more)
+        run = self.start(*args, **more)
         out, err = run.communicate(events)
         return out, err, run.returncode
 

@@ -6,12 +6,12 @@ usage: tests/desklog.py [PROGRAM]     the program is target/bin/desklog unless n
 The cases of tests/vectors are a book, events and the log expected of them. The last line is 'N passed, M failed'; the exit
 status is 0 only if nothing failed.
 """
-import os
+import errno
 import pathlib
 import sys
 
 sys.dont_write_bytecode = True
-from checks import check, closed, closing, prompt, steady, usage
+from checks import check, closed, closing, failing, prompt, steady, unread, unwritten, usage
 from desk import VECTORS, WORK, Desk, by_event, frame, frames, read, shim as built, temporary
 
 WORKED = 'worked-example'
@@ -64,17 +64,18 @@ def books():
 
 
 def ends(shim):
-    """A read that fails ends the stream as its end would; so does no standard input at all."""
+    """A read that fails ends the stream as its end would, and is told."""
     desk, events, log = Desk(read(WORKED, 'book')), read(WORKED, 'events'), read(WORKED, 'log')
     for came in frames(events):
         want = b''.join(by_event(log)[:frames(events).index(came) + 1])
         out, err, status = desk.log(events, env={'LD_PRELOAD': shim, 'READ_FAILS': str(came)})
-        check(f'a read that fails after {came} bytes', (out, err, status) == (want, b'', 0), out)
+        check(f'a read that fails after {came} bytes', (out, err, status) == (want, unread(errno.EIO), 0), (out, err))
     out, err, _ = desk.log(events, env={'LD_PRELOAD': shim, 'READ_FAILS': '5'})
-    check('a read that fails in a head', out == b'E 1 3 0\n' and err == b'', out)
-    run = desk.start(preexec_fn=lambda: os.close(0))
-    out, err = run.stdout.read(), run.stderr.read()
-    check('no standard input', run.wait() == 0 and out == b'' and err == b'', (out, err))
+    check('a read that fails in a head', out == b'E 1 3 0\n' and err == unread(errno.EIO), (out, err))
+    with open('/dev/full', 'wb') as full:
+        _, err, status = Desk(b'').log(b'', stdout=full)
+    why = b'desklog: the start is refused: an empty order book is unsound\n'
+    check('a refusal that cannot be written', err == unwritten(errno.ENOSPC) + why and status == 0, err)
 
 
 def calls(shim):
@@ -104,6 +105,7 @@ events, ends_at = read(WORKED, 'events'), [0, *frames(read(WORKED, 'events'))]
 pieces = [events[at:end] for at, end in zip(ends_at, ends_at[1:])]
 prompt(worked, list(zip(pieces, by_event(read(WORKED, 'log')))))
 closed(worked, frame(1, 1, 2, b'\1' * 4))
+failing(worked, frame(1, 1, 2, b'\1' * 4))
 calls(shim)
 usage()
 long_stream(worked, (pieces[0], by_event(read(WORKED, 'log'))[0]))

@@ -5,7 +5,7 @@
 #include <stddef.h>
 
 const uint8_t script_book[] = {
-    1, 7,   1,                    /* seat 1, tenant 7, separate */
+    1, 7,   1,                    /* seat 1, tenant 7, options 1: separate */
     2, 7,   0,                    /* seat 2, tenant 7 */
     3, 7,   0,                    /* seat 3, tenant 7 */
     4, 8,   0,                    /* seat 4, tenant 8 */

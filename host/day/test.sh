@@ -7,7 +7,16 @@ archive=$(realpath -m "${1:-$(dirname "$0")/../../target/staticlib/libkernel.a}"
 cd "$(dirname "$0")" || exit 1
 . ../../tests/check.sh
 
-build() { make -s CC="$1" OUT="$work/$1" ARCHIVE="$archive"; }
+# By a name without a space, whatever the project lies under: make knows no others.
+build() { ln -sf "$archive" "$work/libkernel.a" && make -s CC="$1" OUT="$work/$1" ARCHIVE="$work/libkernel.a"; }
+
+# A project under a path with a space, where nothing is named to make: it takes the compiler from CC, and gcc if that is not set.
+spaced=$work/'a b'
+lay_out() {
+    mkdir -p "$spaced/target/staticlib" && cp "$archive" "$spaced/target/staticlib/libkernel.a" &&
+        cp -r ../../host ../../include "$spaced"
+}
+build_spaced() { lay_out && ! CC=false make -s -C "$spaced/host/day" && env -u CC make -s -C "$spaced/host/day"; }
 
 # No program of ours is left running: every one of them was started by a path under $work.
 nobody_left() {
@@ -90,6 +99,8 @@ cp "$(type -P sleep)" "$work/sleep"
 
 check 'the day builds with gcc' build gcc
 check 'the day builds with clang' build clang
+check 'the day builds below a path with a space' build_spaced
+check 'a good day, below that path' plays 0 expected "$spaced/target/day/day"
 for compiler in gcc clang; do
     check "a good day, $compiler" plays 0 expected "$work/$compiler/day"
     for bad in tab-dies process-dies child-lies; do

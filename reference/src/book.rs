@@ -2,10 +2,13 @@
 
 use crate::names::{is_folded, is_name};
 
+/// "Separate 0 or 1": the byte is one of options, of which bit 0 says separate.
+pub const MOST_OPTIONS: u8 = 1;
+
 pub struct Order {
     pub seat: u8,
     pub tenant: u8,
-    pub separate: u8,
+    pub options: u8,
 }
 
 pub struct Book<'b> {
@@ -43,7 +46,7 @@ impl<'b> Book<'b> {
         self.orders.iter().all(|order| (1..=8).contains(&order.seat))
             && self.orders.is_sorted_by(|one, next| one.seat < next.seat)
             && self.orders.iter().all(|order| (1..=99).contains(&order.tenant))
-            && self.orders.iter().all(|order| order.separate <= 1)
+            && self.orders.iter().all(|order| order.options <= MOST_OPTIONS)
     }
 
     /// "Folded name of 1 to 62 [...]; names strictly rising in byte order (a name before its continuations)."
@@ -74,7 +77,7 @@ impl Trailer {
 /// "Orders of 3 bytes (seat, tenant, separate)."
 fn read_orders(bytes: &[u8]) -> Vec<Order> {
     let (orders, _) = bytes.as_chunks();
-    orders.iter().map(|&[seat, tenant, separate]| Order { seat, tenant, separate }).collect()
+    orders.iter().map(|&[seat, tenant, options]| Order { seat, tenant, options }).collect()
 }
 
 /// "Listed names (length byte, folded name)", as many as the trailer says; "parts adjoin with no gap".

@@ -36,11 +36,11 @@ impl Table {
 }
 
 impl Seat {
-    fn decode(&[tenant, separate, selected, zero, o1, o2, m1, m2, ref tabs @ ..]: &[u8; SEAT_LENGTH]) -> Seat {
+    fn decode(&[tenant, options, selected, zero, o1, o2, m1, m2, ref tabs @ ..]: &[u8; SEAT_LENGTH]) -> Seat {
         let (tabs, _) = tabs.as_chunks();
         Seat {
             tenant,
-            separate,
+            options,
             selected,
             zero,
             opens: u16::from_be_bytes([o1, o2]),
@@ -50,7 +50,7 @@ impl Seat {
     }
 
     fn encode(&self, bytes: &mut Vec<u8>) {
-        bytes.extend([self.tenant, self.separate, self.selected, self.zero]);
+        bytes.extend([self.tenant, self.options, self.selected, self.zero]);
         bytes.extend(self.opens.to_be_bytes());
         bytes.extend(self.map.to_be_bytes());
         self.tabs.iter().for_each(|tab| tab.encode(bytes));

@@ -1,12 +1,13 @@
 //! "Sound means": one function for each clause of that sentence, in its order. A clause judges any table, the unsound
 //! ones too, and leaves to the other clauses what is theirs.
 
+use crate::book::MOST_OPTIONS;
 use crate::names::{is_folded, is_name};
 use crate::table::{Place, ProcessRow, Seat, TabRow, Table, SLOTS};
 
 const CLAUSES: &[fn(&Table) -> bool] = &[
     tenants_are_in_range,
-    separates_are_in_range,
+    options_are_in_range,
     selected_slots_are_in_range,
     waiting_marks_are_in_range,
     offsets_are_as_given,
@@ -75,8 +76,8 @@ fn tenants_are_in_range(table: &Table) -> bool {
     table.seats.iter().all(|seat| seat.tenant <= 99)
 }
 
-fn separates_are_in_range(table: &Table) -> bool {
-    table.seats.iter().all(|seat| seat.separate <= 1)
+fn options_are_in_range(table: &Table) -> bool {
+    table.seats.iter().all(|seat| seat.options <= MOST_OPTIONS)
 }
 
 /// Never fails alone: a slot above 10 is not live either.

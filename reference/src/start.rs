@@ -23,7 +23,7 @@ pub fn start(table: &mut [u8], book: &[u8]) -> Answer {
 fn fresh_table(book: &Book) -> Table {
     let mut table = Table::empty();
     for order in &book.orders {
-        *table.seat_mut(order.seat) = Seat { tenant: order.tenant, separate: order.separate, ..Seat::default() };
+        *table.seat_mut(order.seat) = Seat { tenant: order.tenant, options: order.options, ..Seat::default() };
     }
     table
 }

@@ -20,7 +20,7 @@ pub struct Table {
 #[derive(Clone, Copy, PartialEq, Eq, Default)]
 pub struct Seat {
     pub tenant: u8,
-    pub separate: u8,
+    pub options: u8,
     pub selected: u8,
     pub zero: u8,
     pub opens: u16,
@@ -96,7 +96,7 @@ impl Table {
     /// "A seat's owner is 100 + seat if separate is 1, otherwise its tenant."
     pub fn owner_of(&self, seat: u8) -> u8 {
         match self.seat(seat) {
-            Seat { separate: 1, .. } => 100 + seat,
+            Seat { options, .. } if options & 1 == 1 => 100 + seat,
             Seat { tenant, .. } => *tenant,
         }
     }

@@ -78,9 +78,9 @@ fn seats_are_1_to_8_strictly_rising() {
 }
 
 #[test]
-fn tenants_are_1_to_99_and_separate_is_0_or_1() {
-    for (tenant, separate, expected) in [(1, 0, 0), (99, 1, 0), (0, 0, 6), (100, 0, 6), (1, 2, 6), (1, 255, 6)] {
-        assert_eq!(number(&book(&[[1, tenant, separate]], &[])), expected, "{tenant} {separate}");
+fn tenants_are_1_to_99_and_options_are_0_or_1() {
+    for (tenant, options, expected) in [(1, 0, 0), (99, 1, 0), (0, 0, 6), (100, 0, 6), (1, 2, 6), (1, 255, 6)] {
+        assert_eq!(number(&book(&[[1, tenant, options]], &[])), expected, "{tenant} {options}");
     }
 }
 

@@ -61,7 +61,7 @@ fn tenants_are_in_range() {
 }
 
 #[test]
-fn separates_are_in_range() {
+fn options_are_in_range() {
     is_unsound(&[(seat(2) + 1, 2)]);
 }
 

@@ -5,16 +5,16 @@ use mathlib.Core.Bool.{true, false, true≢false}
 use mathlib.Core.List.{List, [], _∷_, _++_, append-nil}
 use native.Mathlib.Omega.{arith}
 use lib.ListN.{length, take}
-use Rattle.names.specs.Names.{soundBook}
-use Rattle.names.specs.Laws.Bools.{fails}
+use Rattle.terms.specs.Names.{soundBook}
+use Rattle.terms.specs.Laws.Bools.{fails}
 use Rattle.log.specs.Log.{joined}
 use Rattle.log.specs.Laws.Stream.{joined-none, joined-more}
 use Rattle.log.specs.Laws.Books.{no-book}
 use Rattle.reader.specs.Held.{outset, held}
 use Rattle.asksuffix.specs.Rule.Hosts.{hostWhole, hosts, laidHosts}
 use Rattle.asksuffix.specs.Rule.Answers.{mostText, answerLine, answerLines, answers}
-use Rattle.asksuffix.specs.Turn.{Answered, Turn, answered, stopped, read}
-use Rattle.asksuffix.specs.Turns.{Turns, ends, goes}
+use Rattle.asksuffix.specs.Turn.{HostAnswered, Turn, answered, stopped, read}
+use Rattle.asksuffix.specs.Turns.{AskRun, ends, goes}
 use Rattle.asksuffix.specs.Laws.Hosts.{hosts-cut}
 use Rattle.asksuffix.specs.Laws.Laid.{hosts-before, hosts-all, Bytes, Laid, laid-again}
 use Rattle.asksuffix.specs.Laws.Line.{length-line, line-unsound}
@@ -23,7 +23,7 @@ use Rattle.reader.specs.declared.place.Place.{Place}
 
 -- ---- a run
 
-turns-say : {b buf o : List ℕ} {p : Place} {cs : List (List ℕ)} {x : List ℕ} → Turns b buf o p cs x
+turns-say : {b buf o : List ℕ} {p : Place} {cs : List (List ℕ)} {x : List ℕ} → AskRun b buf o p cs x
     → x ≡ answers b (held buf p ++ joined cs)
 turns-say {b} (ends {buf′ = buf′} {o′ = o′} {p′ = p′} t d) =
     let none = answers-cut b (held buf′ p′) (done-cut t d) in
@@ -35,14 +35,14 @@ turns-say {b} (goes {o′ = o′} {p′ = p′} {cs = cs} t d r) =
     rw joined-more (ap (λ (y : List ℕ). take (p′ .filled) o′ ++ y) (turns-say r) ∙ turn-says t (joined cs))
 
 -- All that a run says, turn by turn, are the answers to the hosts of all that its reads brought, in whatever chunks.
-pub program-answers : {b buf o : List ℕ} {cs : List (List ℕ)} {x : List ℕ} → Turns b buf o outset cs x
+pub program-answers : {b buf o : List ℕ} {cs : List (List ℕ)} {x : List ℕ} → AskRun b buf o outset cs x
     → x ≡ answers b (joined cs)
 unfolding held
 program-answers r = turns-say r
 
 -- Where a whole host is held a turn answers it, whether or not more has come: its line does not wait for the next host.
 pub turn-answers : {buf b o : List ℕ} {p : Place} {buf′ o′ : List ℕ} {p′ : Place} → Turn buf b o p buf′ o′ p′
-    → hostWhole (held buf p) ≡ true → Answered buf b o p buf′ o′ p′
+    → hostWhole (held buf p) ≡ true → HostAnswered buf b o p buf′ o′ p′
 turn-answers (answered w) h = w
 turn-answers (stopped w) h = absurd (true≢false (sym h ∙ w .cut))
 turn-answers (read w) h = absurd (true≢false (sym h ∙ w .cut))

@@ -6,7 +6,7 @@ use mathlib.Core.Bool.{true, false}
 use mathlib.Core.Path.{_≡_}
 use mathlib.Core.List.{List}
 use lib.ListN.{length, drop}
-use Rattle.rules.specs.Rules.{over}
+use Rattle.rules.specs.Sheet.{over}
 use Rattle.reader.specs.Held.{Sound, held, Filled}
 use Rattle.asksuffix.specs.Rule.Hosts.{mostBytes, hostBytes, hostWhole, firstHost}
 use Rattle.asksuffix.specs.Rule.Answers.{mostText, answerLine}
@@ -15,7 +15,7 @@ use Rattle.reader.specs.declared.place.Place.{Place}
 -- ---- what is asked
 
 -- memory for every turn: the buffer holds any host, and the room takes any line
-pub record Large (buf o : List ℕ) : Type 0 where
+pub record AskBuffers (buf o : List ℕ) : Type 0 where
   pub holds : mostBytes ≤ length buf
   pub roomy : mostText ≤ length o
 
@@ -24,7 +24,7 @@ abbrev pub Countable : Place → Type 0
 Countable p = p .number < 18446744073709551615
 
 -- a whole host is at the front of s, and where it ends is a place
-pub record Given (s o : List ℕ) (p : Place) : Type 0 where
+pub record Answerable (s o : List ℕ) (p : Place) : Type 0 where
   pub whole : hostWhole s ≡ true
   pub inside : p .place + length s < 18446744073709551616
   pub roomy : mostText ≤ length o
@@ -54,7 +54,7 @@ pub record Gave (s b o : List ℕ) (p : Place) (o′ : List ℕ) (p′ : Place) 
   pub text : o′ ≡ over o 0 (answerLine b (firstHost s))
   pub moved : p′ ≡ past b s p
 
-pub record Answered (buf b o : List ℕ) (p : Place) (buf′ o′ : List ℕ) (p′ : Place) : Type 0 where
+pub record HostAnswered (buf b o : List ℕ) (p : Place) (buf′ o′ : List ℕ) (p′ : Place) : Type 0 where
   pub whole : hostWhole (held buf p) ≡ true
   pub same : buf′ ≡ buf
   pub gave : Gave (held buf p) b o p o′ p′
@@ -77,6 +77,6 @@ pub record Read (buf o : List ℕ) (p : Place) (buf′ o′ : List ℕ) (p′ : 
   pub filled : Filled buf p buf′ p′
 
 pub data Turn (buf b o : List ℕ) (p : Place) (buf′ o′ : List ℕ) (p′ : Place) : Type 0 where
-  answered : Answered buf b o p buf′ o′ p′ → Turn buf b o p buf′ o′ p′
+  answered : HostAnswered buf b o p buf′ o′ p′ → Turn buf b o p buf′ o′ p′
   stopped : Stopped buf o p buf′ o′ p′ → Turn buf b o p buf′ o′ p′
   read : Read buf o p buf′ o′ p′ → Turn buf b o p buf′ o′ p′

@@ -10,9 +10,9 @@ use Rattle.asksuffix.specs.Turn.{Turn}
 use Rattle.reader.specs.declared.place.Place.{Place}
 
 -- of book b, from buffer, room and place on: the chunks, and all the text
-pub data Turns (b : List ℕ) : List ℕ → List ℕ → Place → List (List ℕ) → List ℕ → Type 0 where
+pub data AskRun (b : List ℕ) : List ℕ → List ℕ → Place → List (List ℕ) → List ℕ → Type 0 where
   ends : {buf o buf′ o′ : List ℕ} {p p′ : Place} → Turn buf b o p buf′ o′ p′ → p′ .done ≡ true
-      → Turns b buf o p (came buf p buf′ p′ ∷ []) (take (p′ .filled) o′)
+      → AskRun b buf o p (came buf p buf′ p′ ∷ []) (take (p′ .filled) o′)
   goes : {buf o buf′ o′ : List ℕ} {p p′ : Place} {cs : List (List ℕ)} {x : List ℕ} → Turn buf b o p buf′ o′ p′
-      → p′ .done ≡ false → Turns b buf′ o′ p′ cs x
-      → Turns b buf o p (came buf p buf′ p′ ∷ cs) (take (p′ .filled) o′ ++ x)
+      → p′ .done ≡ false → AskRun b buf′ o′ p′ cs x
+      → AskRun b buf o p (came buf p buf′ p′ ∷ cs) (take (p′ .filled) o′ ++ x)

@@ -1,11 +1,11 @@
 // The line that answers a host.
-use log::line::put_payload;
-use log::text::put;
-use log::text::put_decimal;
-use names::byte::wide;
+use lines::line::put_payload;
+use lines::text::put;
+use lines::text::put_decimal;
+use terms::byte::wide;
 ghost use Prim.Native.Nat.{_≤_};
 ghost use lib.ListN.{length};
-ghost use Rattle.log.specs.Inner.{Wrote};
+ghost use Rattle.rules.specs.Inner.{Wrote};
 ghost use Rattle.asksuffix.specs.Rule.Answers.{mostText, answerLine};
 
 // Over the front of the room; how long it is is given.

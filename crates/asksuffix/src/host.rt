@@ -1,5 +1,5 @@
 // A host at the front of a stream that is held in part: a length of 2 bytes, and that many bytes.
-use table::num::two_at;
+use terms::num::two_at;
 ghost use mathlib.Core.Bool.{false};
 ghost use mathlib.Core.Path.{_≡_};
 ghost use Prim.Native.Nat.{_≤_, _<_};

@@ -1,5 +1,6 @@
 // The program for support: book.bin and hosts in, and for each host a line with its suffix under the book.
 mod answer;
+mod cut;
 mod help;
 mod host;
 mod run;
@@ -19,16 +20,17 @@ fn buffer() -> [u8; 131072]
 }
 
 fn main() {
-    if help::answered() {
+    let who = b"asksuffix";
+    if help::answered(who) {
         return;
     }
     // a byte more than a book may have, so that one too long is seen to be
     let mut book = [0u8; 32769];
     let mut buf = buffer();
     let mut out = [0u8; 131];
-    let n = read_book(&mut book, b"asksuffix: ");
+    let n = read_book(&mut book, who);
     if !names::book::is_sound(&book[..n]) {
-        say_unsound(&book[..n], b"asksuffix: ");
+        say_unsound(&book[..n], who);
     }
-    run(&mut buf, &book[..n], &mut out);
+    run(&mut buf, &book[..n], &mut out, who);
 }

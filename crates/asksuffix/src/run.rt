@@ -1,22 +1,15 @@
 // Turn after turn, to the end of the stream.
+use crate::cut::say_cut;
 use crate::turn::turn;
-use libc::STDERR_FILENO;
 use reader::out::flush;
 use reader::place::Place;
-ghost use Rattle.asksuffix.specs.Turn.{Large};
+ghost use Rattle.asksuffix.specs.Turn.{AskBuffers};
 
 // A proved loop has to end, and nothing says that a stream does: turns are counted down, from a number that no run uses up.
 const TURNS: u64 = 18446744073709551615;
 
-// What is left at the end of the stream is told.
-fn say_cut(p: Place) {
-    if p.place < p.have {
-        io::write_all(STDERR_FILENO, b"asksuffix: the stream ends within a host\n");
-    }
-}
-
-pub fn run(buf: &mut [u8], book: &[u8], out: &mut [u8])
-    requires { ⌜ Large (now buf) (now out) ⌝ }
+pub fn run(buf: &mut [u8], book: &[u8], out: &mut [u8], who: &[u8])
+    requires { ⌜ AskBuffers (now buf) (now out) ⌝ }
 {
     let mut p = Place {
         place: 0,
@@ -28,13 +21,15 @@ pub fn run(buf: &mut [u8], book: &[u8], out: &mut [u8])
     };
     let mut left = TURNS;
     while left > 0 {
-        p = turn(buf, book, out, p);
+        p = turn(buf, book, out, p, who);
         let filled = p.filled;
-        if !flush(out, filled) {
+        if !flush(out, filled, who) {
             return;
         }
         if p.done {
-            say_cut(p);
+            let place = p.place;
+            let have = p.have;
+            say_cut(&buf[place..have], p.number);
             return;
         }
         left -= 1;

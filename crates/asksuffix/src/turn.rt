@@ -9,11 +9,11 @@ ghost use mathlib.Core.Path.{_≡_};
 ghost use Prim.Native.Nat.{_+_};
 ghost use lib.ListN.{length};
 ghost use Rattle.reader.specs.Held.{Sound};
-ghost use Rattle.asksuffix.specs.Turn.{Large, Countable, last, Given, Gave, Turn};
+ghost use Rattle.asksuffix.specs.Turn.{AskBuffers, Countable, last, Answerable, Gave, Turn};
 
 // The host at the front of what is held, answered; the place is past it.
 fn answer(held: &[u8], book: &[u8], out: &mut [u8], p: Place) -> Place
-    requires { ⌜ Given (now held) (now out) p ⌝ }
+    requires { ⌜ Answerable (now held) (now out) p ⌝ }
     ensures { λ r. ⌜ Gave (now (held .entry)) (now (book .entry)) (now (out .entry)) p (now (out .exit)) r ⌝ }
 {
     let size = host_bytes(held);
@@ -42,8 +42,8 @@ fn stop(p: Place) -> Place
     }
 }
 
-pub fn turn(buf: &mut [u8], book: &[u8], out: &mut [u8], p: Place) -> Place
-    requires { ⌜ Sound p (length (now buf)) × (Large (now buf) (now out) × Countable p) ⌝ }
+pub fn turn(buf: &mut [u8], book: &[u8], out: &mut [u8], p: Place, who: &[u8]) -> Place
+    requires { ⌜ Sound p (length (now buf)) × (AskBuffers (now buf) (now out) × Countable p) ⌝ }
     ensures { λ r. ⌜ Turn (now (buf .entry)) (now (book .entry)) (now (out .entry)) p (now (buf .exit)) (now (out .exit)) r ⌝ }
 {
     let place = p.place;
@@ -54,5 +54,5 @@ pub fn turn(buf: &mut [u8], book: &[u8], out: &mut [u8], p: Place) -> Place
     if p.ended {
         return stop(p);
     }
-    refill(buf, p)
+    refill(buf, p, who)
 }

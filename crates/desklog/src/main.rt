@@ -1,11 +1,7 @@
 // The desk log program: book.bin and a stream of events in, a line for each event and each action out.
-mod give;
 mod help;
-mod run;
-mod serve;
-mod turn;
 
-use crate::run::log;
+use logging::run::log;
 use reader::book::read_book;
 ghost use mathlib.Core.Path.{_≡_};
 ghost use lib.ListN.{length};
@@ -18,7 +14,8 @@ fn room() -> [u8; 524288]
 }
 
 fn main() {
-    if help::answered() {
+    let who = b"desklog";
+    if help::answered(who) {
         return;
     }
     // a byte more than a book may have, so that one too long is seen to be
@@ -26,6 +23,6 @@ fn main() {
     let mut table = [0u8; 6152];
     let mut buf = io::large_buffer();
     let mut out = room();
-    let n = read_book(&mut book, b"desklog: ");
-    log(&mut buf, &mut table, &book[..n], &mut out);
+    let n = read_book(&mut book, who);
+    log(&mut buf, &mut table, &book[..n], &mut out, who);
 }

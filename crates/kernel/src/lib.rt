@@ -1,30 +1,17 @@
 // The kernel between hosted desks, their tabs and their cookie processes: start and step, the only two functions that leave it.
 // The memory lent to one call does not overlap; nothing is kept between calls.
-mod action;
-mod allow;
-mod answer;
-mod deliver;
-mod desk;
-mod keys;
-mod open;
-mod put;
-mod read;
-mod send;
-mod serve;
-mod tab;
-
-use crate::answer::pack;
-use crate::answer::refused;
-use crate::read::read;
-use crate::serve::serve;
+use events::read;
+use fields::layout::is_long;
+use frames::answer::pack;
+use frames::answer::refused;
 use names::book::is_sound;
 use rules::event::Reading;
-use rules::given::Given;
+use rules::verdict::Verdict;
+use senders::serve;
+use soundness::sound;
 use table::fresh::fresh;
-use table::layout::is_long;
-use table::sound;
 ghost use lib.ListN.{length};
-ghost use Rattle.rules.specs.Rules.{stepOf, startOf, Stepped, Started};
+ghost use Rattle.rules.specs.Sheet.{stepOf, startOf, Stepped, Started};
 ghost use Rattle.rules.specs.Inner.{Decided};
 
 const ROOM: usize = 4106;
@@ -47,7 +34,7 @@ pub extern "C" fn stewlattice_start(table: &mut [u8], book: &[u8]) -> u64
 }
 
 // Refusals 1 to 3, and else what the event's rule decides.
-fn decide(table: &mut [u8], book: &[u8], event: &[u8], out: &mut [u8]) -> Given
+fn decide(table: &mut [u8], book: &[u8], event: &[u8], out: &mut [u8]) -> Verdict
     ensures { λ r. ⌜ Decided (stepOf (length (now (out .entry))) (now (table .entry)) (now (book .entry)) (now (event .entry))) (now (out .entry)) (now (table .exit)) (now (out .exit)) r ⌝ }
 {
     if out.len() < ROOM {

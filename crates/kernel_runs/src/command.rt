@@ -1,110 +1,78 @@
 // The script: its lines, one by one, and which command each is.
-use crate::ask::ask;
-use crate::pieces::put_words;
-use crate::shape::BOOK;
-use crate::shape::POKE;
-use crate::shape::ROOM;
-use crate::shape::TABLE;
-use crate::shape::command_of;
+use crate::log;
+use kernel_calls::call::Lent;
+use kernel_calls::call::Room;
+use kernel_calls::call::Table;
+use kernel_calls::call::call;
+use kernel_calls::call::rounds;
+use kernel_calls::shape::BOOK;
+use kernel_calls::shape::POKE;
+use kernel_calls::shape::ROOM;
+use kernel_calls::shape::ROUNDS;
+use kernel_calls::shape::START;
+use kernel_calls::shape::TABLE;
+use kernel_calls::shape::command_of;
+use runs::number::at_most;
 use runs::number::number_at;
-use runs::parts::end_of;
+use runs::parts::count;
+use runs::parts::first;
+use runs::parts::part;
+use runs::pieces::put_words;
 use runs::say;
-use runs::script::is_heading;
-ghost use Prim.Native.Nat.{_≤_};
+use std::num::wrapping_add_usize;
 
-// How much of the memory is lent to a call, and how many events there were since the last start.
-struct Lent {
-    table: usize,
-    room: usize,
-    book: usize,
-    events: usize,
-}
-
-fn at_most(most: usize, n: usize) -> usize
-    ensures { λ r. ⌜ r ≤ most ⌝ }
-{
-    if most < n {
-        return most;
+// The calls that a line asks for, and how many events there were since the last start.
+fn ask(table: &mut Table, book: &[u8], room: &mut Room, l: &[u8], c: usize, lent: Lent) -> usize {
+    if c == ROUNDS {
+        let n = number_at(l, 1);
+        log::say_rounds(n, rounds(table, book, room, l, n, lent));
+        return wrapping_add_usize(lent.events, wrapping_add_usize(n, n));
     }
+    let o = call(table, book, room, l, c, lent);
+    if c == START {
+        log::say_start(o);
+        return 0;
+    }
+    let n = wrapping_add_usize(lent.events, 1);
+    log::say_step(n, o, room);
     n
 }
 
-fn poke(table: &mut [u8], l: &[u8]) {
-    let at = at_most(table.len(), number_at(l, 1));
+fn poke(table: &mut Table, l: &[u8]) {
+    let at = at_most(6153, number_at(l, 1));
     put_words(table, at, l, 2);
 }
 
-// A call with just what is lent; how many events there were since the last start.
-fn lend(table: &mut [u8], book: &[u8], room: &mut [u8], l: &[u8], c: usize, lent: Lent) -> usize {
-    let t = at_most(table.len(), lent.table);
-    let b = at_most(book.len(), lent.book);
-    let r = at_most(room.len(), lent.room);
-    ask(
-        &mut table[0..t],
-        &book[0..b],
-        &mut room[0..r],
-        l,
-        c,
-        lent.events,
-    )
-}
-
-// The command, and what is lent after it.
-fn obey(
-    table: &mut [u8],
-    book: &mut [u8],
-    room: &mut [u8],
-    l: &[u8],
-    c: usize,
-    lent: Lent,
-) -> Lent {
+// The line's command, and what is lent after it.
+fn obey(table: &mut Table, book: &mut [u8; 4096], room: &mut Room, l: &[u8], lent: Lent) -> Lent {
     let mut next = lent;
-    if c == TABLE {
-        next.table = number_at(l, 1);
+    let c = command_of(l);
+    if c == 0 {
         return next;
     }
-    if c == ROOM {
-        next.room = number_at(l, 1);
-        return next;
+    say::line(l);
+    match c {
+        TABLE => next.table = number_at(l, 1),
+        ROOM => next.room = number_at(l, 1),
+        BOOK => next.book = put_words(book, 0, l, 1),
+        POKE => poke(table, l),
+        _ => next.events = ask(table, first(book, lent.book), room, l, c, lent),
     }
-    if c == BOOK {
-        next.book = put_words(book, 0, l, 1);
-        return next;
-    }
-    if c == POKE {
-        poke(table, l);
-        return next;
-    }
-    next.events = lend(table, book, room, l, c, lent);
     next
 }
 
-fn turn(table: &mut [u8], book: &mut [u8], room: &mut [u8], l: &[u8], lent: Lent) -> Lent {
-    if is_heading(l) {
-        say::line(l);
-        return lent;
-    }
-    let c = command_of(l);
-    if c == 0 {
-        say::bad(l);
-        return lent;
-    }
-    say::line(l);
-    obey(table, book, room, l, c, lent)
-}
-
 // Each line of the script in turn.
-pub fn run(script: &[u8], table: &mut [u8], book: &mut [u8], room: &mut [u8]) {
+pub fn run(script: &[u8], table: &mut Table, book: &mut [u8; 4096], room: &mut Room) {
     let mut lent = Lent {
         table: 6152,
         room: 4106,
         book: 0,
         events: 0,
     };
-    let mut at = 0;
-    while at < script.len() {
-        let end = end_of(script, b'\n', at);
-        lent = turn(table, book, room, &script[at..end], lent);
-        at = end + 1;
+    let lines = count(script, b'\n');
+    let mut k = 0;
+    while k < lines {
+        lent = obey(table, book, room, part(script, b'\n', k), lent);
+        k += 1;
     }
 }

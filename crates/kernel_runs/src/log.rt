@@ -1,23 +1,21 @@
 // What is said of a call: the lines of the desk log, and a line on the memory that was lent.
-use crate::call::Outcome;
-use names::byte::wide;
+use frames::answer::actions_in;
+use frames::answer::bytes_in;
+use frames::answer::number_in;
+use kernel_calls::call::Outcome;
 use runs::hexed::say_bytes;
+use runs::parts::part;
 use runs::say;
-use table::num::four_at;
+use terms::byte::wide;
+use terms::num::four_at;
 ghost use Prim.Native.Nat.{_≤_};
 ghost use lib.ListN.{length};
 
-fn spaced(n: usize) {
-    say::text(b" ");
-    say::number(n);
-}
-
 fn say_payload(payload: &[u8]) {
+    say::byte(b' ');
     if payload.len() == 0 {
-        say::text(b" -\n");
-        return;
+        say::byte(b'-');
     }
-    say::text(b" ");
     say_bytes(payload);
 }
 
@@ -25,7 +23,7 @@ fn say_payload(payload: &[u8]) {
 fn say_broken(s: &[u8]) -> usize
     ensures { λ r. ⌜ r ≤ length (now (s .entry)) ⌝ }
 {
-    say::text(b"A ?\n");
+    say::line(b"A ?");
     s.len()
 }
 
@@ -40,11 +38,11 @@ fn say_action(s: &[u8]) -> usize
     if s.len() - 10 < size {
         return say_broken(s);
     }
-    say::text(b"A");
-    spaced(wide(s[0]));
-    spaced(four_at(s, 1));
-    spaced(wide(s[5]));
-    spaced(size);
+    say::byte(b'A');
+    say::spaced(wide(s[0]));
+    say::spaced(four_at(s, 1));
+    say::spaced(wide(s[5]));
+    say::spaced(size);
     let end = 10 + size;
     say_payload(&s[10..end]);
     end
@@ -63,60 +61,48 @@ fn say_actions(s: &[u8], count: usize) -> usize
     at
 }
 
-// The table and the room are as they were.
-fn is_kept(o: Outcome) -> bool {
-    if o.changed != 0 {
-        return false;
-    }
-    o.stayed
-}
-
-fn say_kept(kept: bool) {
-    if kept {
-        say::text(b", kept\n");
-        return;
-    }
-    say::text(b", CHANGED\n");
-}
-
-// The bytes written, and the bytes of the table that changed; of a refusal, whether all is kept.
+// The bytes written, and the bytes of the table that changed; of a refusal, whether table and room are as they were.
 fn say_memory(o: Outcome) {
-    say::text(b"  ");
-    say::number(o.bytes);
-    say::text(b" bytes");
-    if o.number != 0 {
-        say_kept(is_kept(o));
-        return;
+    let words = b" bytes/, table/, kept/, CHANGED";
+    let served = number_in(o.answer) == 0;
+    let kept = o.stayed && (served || o.changed == 0);
+    say::byte(b' ');
+    say::spaced(bytes_in(o.answer));
+    say::text(part(words, b'/', 0));
+    if served {
+        say::text(part(words, b'/', 1));
+        say::spaced(o.changed);
+    } else if kept {
+        say::text(part(words, b'/', 2));
     }
-    say::text(b", table");
-    spaced(o.changed);
-    if !o.stayed {
-        say::text(b", CHANGED");
+    if !kept {
+        say::text(part(words, b'/', 3));
     }
-    say::text(b"\n");
+    say::end();
 }
 
 pub fn say_start(o: Outcome) {
-    say::count(b"S", o.number);
+    say::count(b"S", number_in(o.answer) as usize);
     say_memory(o);
 }
 
 pub fn say_step(n: usize, o: Outcome, room: &[u8]) {
-    say::text(b"E");
-    spaced(n);
-    spaced(o.number);
-    spaced(o.actions);
-    say::text(b"\n");
-    if say_actions(room, o.actions) != o.bytes {
-        say::text(b"? other bytes than the actions have\n");
+    let actions = actions_in(o.answer) as usize;
+    say::byte(b'E');
+    say::spaced(n);
+    say::spaced(number_in(o.answer) as usize);
+    say::spaced(actions);
+    say::end();
+    if say_actions(room, actions) != bytes_in(o.answer) {
+        say::bad(b"other bytes than the actions have");
     }
     say_memory(o);
 }
 
 pub fn say_rounds(n: usize, bad: usize) {
-    say::text(b"  ");
-    say::number(n);
+    say::byte(b' ');
+    say::spaced(n);
     say::text(b" rounds,");
-    spaced(bad);
-    say::text(b" bad\n");
+    say::spaced(bad);
+    say::line(b" bad");
 }

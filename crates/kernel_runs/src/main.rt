@@ -1,11 +1,6 @@
 // The kernel's two calls, run: a script of commands on standard input, and what came of each.
-mod ask;
-mod call;
 mod command;
-mod frame;
 mod log;
-mod pieces;
-mod shape;
 
 fn main() {
     let mut script = io::large_buffer();

@@ -1,9 +1,8 @@
 -- What follows from the definitions, for the proofs of this crate and every layer above. To be cited first:
 --   Part     from-is: what stands from a place on
---   Wrote    wrote-none, wrote-byte, wrote-then, wrote-three: texts written one after another
 --   Decimal  value-decimal, decimal-leads: a number in decimal can be read back, and does not begin with a zero
 --   Bound    lines-bound, length-actions: how long words and lines are at most
---   First    whole-has, oversized-has, first-inside, first-small: what a stream begins with, how long its first event is
+--   First    whole-has, oversized-has, first-inside: what a stream begins with, how long its first event is
 --   Stream   whole-append, first-append, events-whole, events-last: more bytes behind it, its events one by one
 --   Parted   parted, parted-once: how the document parts a stream, and that it comes to `events`
 --   Laid     the events laid end to end again, how long they are, frames that are read as they were laid
@@ -13,13 +12,12 @@
 --   Serves   a reader in the order of the program
 --   Books    unsound-log, no-book: a book of a length that no sound book has
 --   Frames   frames-held, frames-read: frames that lie end to end are read back
---   Given    answer-given, answer-lines: what a step's answer gives, and the lines written from it
---   Give     gave-given, gave-room, gave-one: one event given to the kernel
+--   Holding  answer-held, answer-lines: what a step's answer gives, and the lines written from it
+--   Give     gave-held, gave-room, gave-one: one event given to the kernel
 --   Serving  many-none, many-more: events given one after another
 -- The others are for this crate's functions: Digits and Hex hold what they write of a number and of bytes, Lines puts words and
 -- lines together, Actions is the loop over the frames, Count the loop over what is ready.
 pub mod Part
-pub mod Wrote
 pub mod Digits
 pub mod Decimal
 pub mod Hex
@@ -37,6 +35,6 @@ pub mod Reads
 pub mod Serves
 pub mod Books
 pub mod Frames
-pub mod Given
+pub mod Holding
 pub mod Give
 pub mod Serving

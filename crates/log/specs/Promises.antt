@@ -7,9 +7,9 @@ use mathlib.Core.Logic.{_≢_}
 use mathlib.Core.List.{List, [], _++_}
 use native.Mathlib.Omega.{arith}
 use lib.ListN.{length, getD}
-use Rattle.names.specs.Laws.Bools.{Range}
-use Rattle.table.specs.Table.{tableBytes}
-use Rattle.rules.specs.Rules.{startOf}
+use Rattle.terms.specs.Base.{Range}
+use Rattle.fields.specs.Table.{tableBytes}
+use Rattle.rules.specs.Sheet.{startOf}
 use Rattle.log.specs.Log.{events, joined, startLine, logFrom, logOf, Reads}
 use Rattle.log.specs.Laws.Stream.{events-nil}
 use Rattle.log.specs.Laws.Parted as parts
@@ -19,7 +19,7 @@ use Rattle.log.specs.Laws.Reads as readers
 use Rattle.log.specs.Laws.Reads.{stream-log, log-started, log-refused}
 use Rattle.log.specs.Laws.Books.{unsound-log, no-book}
 use Rattle.log.specs.Laws.Serves as servers
-use Rattle.log.specs.Laws.Serves.{Serves, Served}
+use Rattle.log.specs.Laws.Serves.{Serves, ServesSome}
 
 -- ---- the events of a stream
 
@@ -103,7 +103,7 @@ reads-exist b held n t cs =
     record { text = d .text; reads = servers.serves-reads (d .way) }
 
 -- So it is by a reader that gives the kernel what is ready, k events at most at once, and reads on only where nothing is ready;
-pub serves-exist : (k : ℕ) (b held : List ℕ) (n : ℕ) (t : List ℕ) (cs : List (List ℕ)) → 0 < k → Served k b held false n t cs
+pub serves-exist : (k : ℕ) (b held : List ℕ) (n : ℕ) (t : List ℕ) (cs : List (List ℕ)) → 0 < k → ServesSome k b held false n t cs
 serves-exist k b held n t cs h = servers.serves-exist k b held n t cs h
 
 -- and such a reader is one of those above.

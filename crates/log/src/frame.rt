@@ -1,5 +1,5 @@
 // Frames of a stream that is held in part: where one ends, and how many are ready.
-use table::num::four_at;
+use terms::num::four_at;
 ghost use mathlib.Core.Path.{_≡_};
 ghost use Prim.Native.Nat.{_≤_};
 ghost use lib.ListN.{length};

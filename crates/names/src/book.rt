@@ -1,18 +1,26 @@
 // The order book: its trailer, its soundness, and what it says of a seat.
-use crate::byte::two_at;
-use crate::byte::wide;
 use crate::listed;
-use crate::order;
-use crate::order::Letting;
+use crate::orders;
+use terms::byte::wide;
+use terms::num::two_at;
+use terms::order::Letting;
 ghost use mathlib.Core.Path.{_≡_};
 ghost use mathlib.Core.Bool.{true, _&&_};
 ghost use Prim.Native.Nat.{_≤_, _<_};
 ghost use lib.ListN.{length};
-ghost use Rattle.names.specs.Names.{orders, listed as listedNames, soundBook, lettingOf};
-ghost use Rattle.names.specs.Inner.{trailerSize, ordersCount, namesAt, namesCount, isPlain, adjoins, soundOrders, soundNames};
+ghost use Rattle.terms.specs.Names.{orders as bookOrders, listed as listedNames, soundBook, lettingOf};
+ghost use Rattle.terms.specs.Inner.{trailerSize, trailer, ordersAt, ordersCount, bookForm, namesAt, namesCount, legalForm};
+ghost use Rattle.terms.specs.Inner.{adjoins, soundOrders, soundNames};
 
 // How many bytes the trailer has: the last ones of a book, which point back.
 pub(crate) const TRAILER: usize = 8;
+
+fn orders_at(b: &[u8]) -> usize
+    requires { ⌜ trailerSize ≤ length (now b) ⌝ }
+    ensures { λ r. ⌜ r ≡ ordersAt (now (b .entry)) ⌝ }
+{
+    two_at(b, b.len() - TRAILER)
+}
 
 fn orders_count(b: &[u8]) -> usize
     requires { ⌜ trailerSize ≤ length (now b) ⌝ }
@@ -20,6 +28,14 @@ fn orders_count(b: &[u8]) -> usize
 {
     let end = b.len() - TRAILER;
     wide(b[end + 2])
+}
+
+fn form_of(b: &[u8]) -> u8
+    requires { ⌜ trailerSize ≤ length (now b) ⌝ }
+    ensures { λ r. ⌜ r ≡ bookForm (now (b .entry)) ⌝ }
+{
+    let end = b.len() - TRAILER;
+    b[end + 3]
 }
 
 pub(crate) fn names_at(b: &[u8]) -> usize
@@ -38,35 +54,30 @@ pub(crate) fn names_count(b: &[u8]) -> usize
     two_at(b, end + 6)
 }
 
-// The offset of orders is 0, and so is the byte kept at zero.
-fn is_plain(b: &[u8]) -> bool
-    requires { ⌜ trailerSize ≤ length (now b) ⌝ }
-    ensures { λ r. ⌜ r ≡ isPlain (now (b .entry)) ⌝ }
+fn is_legal_form(x: u8) -> bool
+    ensures { λ r. ⌜ r ≡ legalForm x ⌝ }
 {
-    let end = b.len() - TRAILER;
-    if two_at(b, end) == 0 {
-        b[end + 3] == 0
-    } else {
-        false
-    }
+    x == 0
 }
 
 fn parts_sound(b: &[u8]) -> bool
     requires { ⌜ trailerSize ≤ length (now b) ⌝ }
-    ensures { λ r. ⌜ r ≡ (adjoins (now (b .entry)) && soundOrders (orders (now (b .entry))) && soundNames (listedNames (now (b .entry)))) ⌝ }
+    ensures { λ r. ⌜ r ≡ (adjoins (now (b .entry)) (trailer (now (b .entry)))
+        && soundOrders (bookOrders (now (b .entry))) && soundNames (listedNames (now (b .entry)))) ⌝ }
 {
     let count = orders_count(b);
     let from = names_at(b);
-    if from != order::ORDER * count {
+    if from != orders::ORDER * count {
         return false;
     }
-    if b.len() - TRAILER < from {
+    let until = b.len() - TRAILER;
+    if until < from {
         return false;
     }
-    if !order::are_sound(b, count) {
+    if !orders::are_sound(b, count) {
         return false;
     }
-    listed::are_sound(b, from, names_count(b))
+    listed::are_sound(b, from, names_count(b), until)
 }
 
 pub fn is_sound(b: &[u8]) -> bool
@@ -78,13 +89,20 @@ pub fn is_sound(b: &[u8]) -> bool
     if 32768 < b.len() {
         return false;
     }
-    if is_plain(b) { parts_sound(b) } else { false }
+    if orders_at(b) != 0 {
+        return false;
+    }
+    if is_legal_form(form_of(b)) {
+        parts_sound(b)
+    } else {
+        false
+    }
 }
 
 // What a sound book says of a seat.
 pub fn letting_of(b: &[u8], seat: u8) -> Letting
     requires { ⌜ soundBook (now b) ≡ true ⌝ }
-    ensures { λ r. ⌜ r ≡ lettingOf seat (orders (now (b .entry))) ⌝ }
+    ensures { λ r. ⌜ r ≡ lettingOf seat (bookOrders (now (b .entry))) ⌝ }
 {
-    order::letting_of(b, orders_count(b), seat)
+    orders::letting_of(b, orders_count(b), seat)
 }

@@ -1,14 +1,13 @@
 // Listed names: which bytes are one, their order, and a list of them in a book.
-use crate::book::TRAILER;
-use crate::byte::wide;
-use crate::fold::is_folded;
-use crate::name::is_name;
+use terms::byte::wide;
+use terms::fold::is_folded;
+use terms::name::is_name;
 ghost use mathlib.Core.Path.{_≡_};
 ghost use mathlib.Core.Bool.{_&&_};
 ghost use Prim.Native.Nat.{_≤_};
 ghost use lib.ListN.{length};
 ghost use lib.Dec.{leb, eqb};
-ghost use Rattle.names.specs.Inner.{trailerSize, before, isListed, soundNames, trailer, nextAt, namesFrom, endFrom};
+ghost use Rattle.terms.specs.Inner.{before, isListed, soundNames, nextAt, namesFrom, endFrom};
 
 // Strictly before in byte order, a name before its continuations.
 fn is_before(s: &[u8], t: &[u8]) -> bool
@@ -53,29 +52,28 @@ fn is_next(last: &[u8], n: &[u8]) -> bool
     }
 }
 
-// A length byte and its bytes stand before the trailer.
-fn is_inside(b: &[u8], at: usize) -> bool
-    requires { ⌜ trailerSize ≤ length (now b) ⌝ }
-    ensures { λ r. ⌜ r ≡ leb (nextAt (now (b .entry)) at) (trailer (now (b .entry))) ⌝ }
+// A length byte and its bytes stand before a place.
+fn is_inside(b: &[u8], at: usize, until: usize) -> bool
+    requires { ⌜ until ≤ length (now b) ⌝ }
+    ensures { λ r. ⌜ r ≡ leb (nextAt (now (b .entry)) at) until ⌝ }
 {
-    let end = b.len() - TRAILER;
-    if end <= at {
+    if until <= at {
         return false;
     }
-    wide(b[at]) < end - at
+    wide(b[at]) < until - at
 }
 
-// The names from a place on, as many as the book counts, are sound and end where the trailer begins.
-pub(crate) fn are_sound(b: &[u8], from: usize, count: usize) -> bool
-    requires { ⌜ trailerSize ≤ length (now b) ⌝ }
-    ensures { λ r. ⌜ r ≡ (eqb (endFrom (now (b .entry)) from count) (trailer (now (b .entry))) && soundNames (namesFrom (now (b .entry)) from count)) ⌝ }
+// The names from a place on, as many as the book counts, are sound and end at another.
+pub(crate) fn are_sound(b: &[u8], from: usize, count: usize, until: usize) -> bool
+    requires { ⌜ until ≤ length (now b) ⌝ }
+    ensures { λ r. ⌜ r ≡ (eqb (endFrom (now (b .entry)) from count) until && soundNames (namesFrom (now (b .entry)) from count)) ⌝ }
 {
     let mut at = from;
     let mut left = count;
     let mut last = 0;
     let mut end = 0;
     while 0 < left {
-        if !is_inside(b, at) {
+        if !is_inside(b, at, until) {
             return false;
         }
         let start = at + 1;
@@ -88,5 +86,5 @@ pub(crate) fn are_sound(b: &[u8], from: usize, count: usize) -> bool
         at = next;
         left -= 1;
     }
-    at == b.len() - TRAILER
+    at == until
 }

@@ -1,15 +1,15 @@
 // The longest listed name that a host is under, and one label more.
 use crate::book::names_at;
 use crate::book::names_count;
-use crate::byte::wide;
-use crate::under::is_under;
+use terms::byte::wide;
+use terms::under::is_under;
 ghost use mathlib.Core.Path.{_≡_};
 ghost use mathlib.Core.Bool.{true, cond};
 ghost use Prim.Native.Nat.{_≤_, max};
 ghost use lib.ListN.{length};
-ghost use Rattle.names.specs.Base.{lastOf};
-ghost use Rattle.names.specs.Names.{under, listed, soundBook};
-ghost use Rattle.names.specs.Inner.{namesFrom, endFrom, matched, withLabel, labels};
+ghost use Rattle.terms.specs.Base.{lastOf};
+ghost use Rattle.terms.specs.Names.{under, soundBook};
+ghost use Rattle.terms.specs.Inner.{namesFrom, endFrom, matched, publicOf, withLabel, labels};
 
 // The longer of the match so far and a listed name, if the host is under that. A name that is not longer is not compared.
 fn better(h: &[u8], n: &[u8], best: usize) -> usize
@@ -41,10 +41,10 @@ fn longest_of(h: &[u8], b: &[u8], from: usize, count: usize) -> usize
     best
 }
 
-// The length of the longest listed name that the host is under; 0 where there is none.
-pub(crate) fn matched_in(h: &[u8], b: &[u8]) -> usize
+// How many of the host's last bytes are public: those of the longest listed name that it is under; 0 where there is none.
+pub(crate) fn public_of(h: &[u8], b: &[u8]) -> usize
     requires { ⌜ soundBook (now b) ≡ true ⌝ }
-    ensures { λ r. ⌜ r ≡ matched (now (h .entry)) (listed (now (b .entry))) ⌝ }
+    ensures { λ r. ⌜ r ≡ publicOf (now (b .entry)) (now (h .entry)) ⌝ }
 {
     longest_of(h, b, names_at(b), names_count(b))
 }

@@ -1,26 +1,15 @@
-// The boundaries of the names crate, run: one line for each case.
-mod ask;
-mod big;
-mod fold_cases;
-mod listed_cases;
-mod marked;
-mod name_cases;
-mod order_cases;
-mod say;
-mod seat_cases;
-mod suffix_cases;
-mod trailer_cases;
-mod under_cases;
+// The boundaries of the names crate, run: a script of questions on standard input, and a line with the answer to each.
+mod answer;
+mod command;
+mod into;
+mod many;
+mod seat;
+mod shape;
 
 fn main() {
-    marked::run();
-    name_cases::run();
-    fold_cases::run();
-    under_cases::run();
-    order_cases::run();
-    seat_cases::run();
-    listed_cases::run();
-    trailer_cases::run();
-    big::run();
-    suffix_cases::run();
+    let mut script = io::large_buffer();
+    let n = io::read_full(0, &mut script);
+    let mut beside = [0u8; 32769];
+    command::run(&script[..n], &mut beside);
+    runs::script::end();
 }

@@ -1,12 +1,7 @@
 // The order book: book.bin in the working directory. What is said of it goes to standard error, and begins as the caller asks.
-use libc::STDERR_FILENO;
+use crate::say::say;
+use crate::say::say_failed;
 ghost use Rattle.io.specs.Counts.{Counts};
-
-// A line: who says it, what failed, and the system's reason.
-fn say_failed(who: &[u8], what: &[u8]) {
-    io::write_all(STDERR_FILENO, who);
-    os::fail(what);
-}
 
 // The file's bytes, up to its end or to the end of the room. A read that fails is told, and leaves none.
 fn read_all(fd: i32, to: &mut [u8], who: &[u8]) -> usize
@@ -44,14 +39,13 @@ pub fn read_book(to: &mut [u8], who: &[u8]) -> usize
 
 // Why this book is unsound, in words.
 pub fn say_unsound(book: &[u8], who: &[u8]) {
-    io::write_all(STDERR_FILENO, who);
     if book.len() == 0 {
-        io::write_all(STDERR_FILENO, b"an empty order book is unsound\n");
+        say(who, b"an empty order book is unsound");
         return;
     }
     if 32768 < book.len() {
-        io::write_all(STDERR_FILENO, b"book.bin has more than 32,768 bytes\n");
+        say(who, b"book.bin has more than 32,768 bytes");
         return;
     }
-    io::write_all(STDERR_FILENO, b"book.bin is not a sound order book\n");
+    say(who, b"book.bin is not a sound order book");
 }

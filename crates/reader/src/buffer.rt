@@ -1,4 +1,5 @@
 // The buffer: its unread rest is moved to the front, and a read goes behind it.
+use crate::say::say_failed;
 use libc::STDIN_FILENO;
 ghost use mathlib.Core.Path.{_≡_};
 ghost use Prim.Native.Nat.{_+_, _-_, _≤_};
@@ -17,11 +18,16 @@ pub fn shift(buf: &mut [u8], place: usize, have: usize)
     }
 }
 
-// Reads once behind the first bytes, and gives how many came: none at the end of the stream, or where the read fails.
-pub fn fill(buf: &mut [u8], have: usize) -> usize
+// Reads once behind the first bytes, and gives how many came: none at the end of the stream, or where the read fails, which
+// standard error is told.
+pub fn fill(buf: &mut [u8], have: usize, who: &[u8]) -> usize
     requires { ⌜ have ≤ length (now buf) ⌝ }
     ensures { λ r. ⌜ (have + r ≤ length (now (buf .entry))) × (take have (now (buf .exit)) ≡ take have (now (buf .entry))) ⌝ }
 {
     let got = libc::read(STDIN_FILENO, &mut buf[have..]);
+    if got < 0 {
+        say_failed(who, b"standard input cannot be read");
+        return 0;
+    }
     io::count(got, &buf[have..])
 }

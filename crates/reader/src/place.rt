@@ -18,8 +18,8 @@ pub struct Place {
     pub done: bool,
 }
 
-// Reads once behind what is unread.
-pub fn refill(buf: &mut [u8], p: Place) -> Place
+// Reads once behind what is unread. A read that fails counts as the end of the stream, and is told.
+pub fn refill(buf: &mut [u8], p: Place, who: &[u8]) -> Place
     requires { ⌜ Sound p (length (now buf)) ⌝ }
     ensures { λ r. ⌜ Filled (now (buf .entry)) p (now (buf .exit)) r ⌝ }
 {
@@ -27,7 +27,7 @@ pub fn refill(buf: &mut [u8], p: Place) -> Place
     let have = p.have;
     let unread = have - place;
     shift(buf, place, have);
-    let got = fill(buf, unread);
+    let got = fill(buf, unread, who);
     Place {
         place: 0,
         have: unread + got,

@@ -6,14 +6,14 @@ use mathlib.Core.Logic.{_≢_}
 use mathlib.Core.List.{List, [], _∷_}
 use lib.ListN.{length}
 use lib.Dec.{eqb}
-use Rattle.names.specs.Names.{folded, soundBook}
-use Rattle.table.specs.Table.{View, tenant, opens, mostOpens, view, tabId, soundTable, live, ownerAt, processWith, waits, Openable}
-use Rattle.table.specs.declared.mark.Mark.{Mark}
+use Rattle.terms.specs.Names.{folded, soundBook}
+use Rattle.fields.specs.Table.{View, tenant, opens, mostOpens, view, tabId, soundTable, live, ownerAt, processWith, waits, Openable}
+use Rattle.fields.specs.declared.mark.Mark.{Mark}
 use Rattle.rules.specs.Rule.Frame.{Frame, frames, over}
 use Rattle.rules.specs.Rule.Desk.{Desk, Reply, changed}
 use Rattle.rules.specs.Rule.Seat.{acceptable}
 use Rattle.rules.specs.Rule.Step.{Outcome, roomNeeded}
-use Rattle.rules.specs.declared.given.Given.{Given}
+use Rattle.rules.specs.declared.verdict.Verdict.{Verdict}
 use Rattle.rules.specs.declared.event.Part.{Part}
 use Rattle.rules.specs.declared.event.SeatMessage.{SeatMessage}
 use Rattle.rules.specs.declared.event.SeatMessage.the-variants.{Key, Mouse, Open}
@@ -58,27 +58,27 @@ pub record Fits (o : List ℕ) (at id n : ℕ) : Type 0 where
 
 -- ---- answers
 
-pub record Says (number actions written : ℕ) (d : Given) : Type 0 where
+pub record Says (number actions written : ℕ) (d : Verdict) : Type 0 where
   pub number= : d .number ≡ number
   pub actions= : d .actions ≡ actions
   pub written= : d .written ≡ written
 
 -- what a rule's function leaves, of seat s of table t: the reply's number and counts, its change, and its frames over the
 -- front of the room
-pub record Replied (t : List ℕ) (s : ℕ) (x : Reply) (lent tableAfter roomAfter : List ℕ) (d : Given) : Type 0 where
+pub record Replied (t : List ℕ) (s : ℕ) (x : Reply) (lent tableAfter roomAfter : List ℕ) (d : Verdict) : Type 0 where
   pub says : Says (x .number) (length (x .actions)) (length (frames (x .actions))) d
   pub table : tableAfter ≡ changed t s (x .change)
   pub room : roomAfter ≡ over lent 0 (frames (x .actions))
 
 -- what an event's function leaves: the same of an outcome
-pub record Decided (x : Outcome) (lent tableAfter roomAfter : List ℕ) (d : Given) : Type 0 where
+pub record Decided (x : Outcome) (lent tableAfter roomAfter : List ℕ) (d : Verdict) : Type 0 where
   pub says : Says (x .number) (length (x .actions)) (length (frames (x .actions))) d
   pub table : tableAfter ≡ x .table
   pub room : roomAfter ≡ over lent 0 (frames (x .actions))
 
 -- ---- what a rule's function may count on: a sound table and room enough
 
-pub record Served (t o : List ℕ) : Type 0 where
+pub record Able (t o : List ℕ) : Type 0 where
   pub sound : soundTable t ≡ true
   pub roomy : roomNeeded ≤ length o
 
@@ -113,10 +113,6 @@ pub record Found (t : List ℕ) (s : ℕ) (x : List ℕ) (owner p : ℕ) : Type 
   pub owner= : owner ≡ ownerAt (view t) s
   pub row= : p ≡ processWith (view t) owner x
 
--- the id that the next tab of a seat gets
-abbrev pub newId : View → ℕ → ℕ
-newId v s = tabId s (v (opens s) + 1)
-
 -- the bar of a seat: the suffix of the tab in a slot, or empty for slot 0
 pub record Shows (t : List ℕ) (s k : ℕ) : Type 0 where
   pub sound : soundTable t ≡ true
@@ -132,7 +128,7 @@ bookNumber b x = cond (not (soundBook b)) 6 (cond (not (acceptable b x)) 7 0)
 
 unfoldable pub openNumber : Desk → List ℕ → List ℕ → ℕ
 openNumber d b x =
-    cond (eqb (bookNumber b x) 0) (cond (eqb (d .tabs) 10) 8 (cond (eqb (d .opens) mostOpens) 9 0)) (bookNumber b x)
+    cond (eqb (bookNumber b x) 0) (cond (eqb (d .tabCount) 10) 8 (cond (d .spent) 9 0)) (bookNumber b x)
 
 -- ---- the parts of an event lie in its bytes
 

@@ -5,4 +5,4 @@ pub use Rattle.rules.specs.Rule.Call.{asks, pending}
 pub use Rattle.rules.specs.Rule.History.{History, started, stepped, unstarted}
 pub use Rattle.rules.specs.Rule.Demand.{Same, Way, Promised}
 pub use Rattle.rules.specs.Rule.Quark.{Socketed, Stored, Retrieved, Requests, Painted, OnlyWaits, control, Quark, Alike}
-pub use Rattle.rules.specs.Rule.Ids.{isAt, tabLive, processLive, Addressed, Ids, Answered}
+pub use Rattle.rules.specs.Rule.Ids.{isAt, tabLive, processLive, Addressed, Ids, Due}

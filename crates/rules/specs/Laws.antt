@@ -8,7 +8,7 @@
 --   Sent     sent-then, sent-one: frames sent one after another
 --   Outcome  step-orderly: every outcome of a step is orderly
 --   Answer   packed-number, packed-actions, packed-written; what a caller reads out of an answer and finds in the room
---   Start    start-starts, start-alone: every outcome of a start
+--   Start    start-starts, start-alone, start-reads: every outcome of a start
 --   Allow    cookie-inside, socket-inside: what is allowed is a name under the suffix
 --   Response any-room, any-book: what a step depends on
 --   Happens  what a step of a sound table comes to, a constructor for each outcome: match on it
@@ -21,6 +21,7 @@ pub mod Cases
 pub mod Frame
 pub mod Head
 pub mod Over
+pub mod Wrote
 pub mod Sent
 pub mod Line
 pub mod Read

@@ -6,14 +6,14 @@
 --   Laws      what follows from the definitions for one call, for every layer
 --   Time      what follows for every history
 -- A reader has to believe Rule; the rest is proved. Rule is no `pub mod`: inside specs/ its definitions are open to proofs, and
--- Rules, History and Inner pass them on shut, so that no other crate opens one.
---   Rules, History  what the other crates cite
+-- Sheet, History and Inner pass them on shut, so that no other crate opens one.
+--   Sheet, History  what the other crates cite
 --   Inner           what the kernel's own contracts cite besides
 --   Held            what its functions ask of their callers, and what they leave
 --   Steps           how each exit of a function of the kernel comes to what its contract says
 mod Rule
 mod Held
-pub mod Rules
+pub mod Sheet
 pub mod History
 pub mod Inner
 pub mod Laws

@@ -29,7 +29,7 @@
 --   Address       where each kind of action may go
 --   Addressed     addressed: every action goes there
 --   Ids           tab-stops, process-stops: every stop names something started and not yet stopped
---   Answered      history-documents: no document comes that was not asked for
+--   Documents     history-documents: no document comes that was not asked for
 -- Forwarder is the worked history, step by step.
 pub mod Induct
 pub mod Rows
@@ -58,5 +58,5 @@ pub mod Stand
 pub mod Address
 pub mod Addressed
 pub mod Ids
-pub mod Answered
+pub mod Documents
 pub mod Forwarder

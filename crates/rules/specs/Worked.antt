@@ -9,23 +9,23 @@ use mathlib.Core.List.{List}
 use native.Mathlib.Omega.{arith}
 use native.Mathlib.Nat.{le-of-eq}
 use lib.ListN.{length}
-use Rattle.names.specs.Names.{orders, lettingOf, tenantOf}
-use Rattle.names.specs.Text as Text
-use Rattle.names.specs.Forwarder.{forwarder, first as desk1, second as desk2, third as desk3, typed-small, typed-capital}
-use Rattle.names.specs.Forwarder.{www-inside}
-use Rattle.names.specs.Laws.Bools.{Range}
-use Rattle.names.specs.Laws.Order.{ownerBy}
-use Rattle.table.specs.Base.{series}
-use Rattle.table.specs.Table.{opens, row, owner, tabId, tableBytes, view, live, TabLive, fresh, opened, waits, marked}
-use Rattle.table.specs.declared.mark.Mark.the-variants.{Cookie}
-use Rattle.table.specs.Laws.Each.{range}
-use Rattle.table.specs.Laws.Tab.{id-is}
-use Rattle.table.specs.Laws.Series.{length-series}
+use Rattle.terms.specs.Names.{orders, lettingOf, tenantOf, ownerBy}
+use Rattle.terms.specs.Text as Text
+use Rattle.terms.specs.Forwarder.{forwarder, first as desk1, second as desk2, third as desk3, typed-small, typed-capital}
+use Rattle.terms.specs.Forwarder.{www-inside}
+use Rattle.terms.specs.Base.{Range}
+use Rattle.fields.specs.Base.{series}
+use Rattle.fields.specs.Table.{opens, row, owner, tabId, tableBytes, view, live, TabLive, fresh, opened, waits, marked}
+use Rattle.fields.specs.declared.mark.Mark.the-variants.{Cookie}
+use Rattle.fields.specs.Laws.Each.{range}
+use Rattle.fields.specs.Laws.Tab.{id-is}
+use Rattle.fields.specs.Laws.Series.{length-series}
 use Rattle.rules.specs.Rule.Call.{Call}
 use Rattle.rules.specs.Rule.History.{History}
-use Rattle.rules.specs.Rules.{framed, bytes, cookieDomain, roomNeeded}
+use Rattle.rules.specs.Sheet.{framed, bytes, cookieDomain, roomNeeded}
 use Rattle.rules.specs.Laws.Acts.{tab-at}
-use Rattle.rules.specs.Laws.Happens.{TabAt, suffixAt}
+use Rattle.rules.specs.Laws.Happens.{TabAt}
+use Rattle.rules.specs.Rule.Desk.{suffixAt}
 use Rattle.rules.specs.Laws.Forward.{domain-of, retrieve-frame}
 use Rattle.rules.specs.Promises.Demand.{promised}
 use Rattle.rules.specs.Time.Induct.{history-sound}

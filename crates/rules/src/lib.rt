@@ -1,4 +1,4 @@
 // The rule sheet. There is no code here but the types in which an event and an answer stand in memory; the rules, and what is
 // promised of them, are specs/.
 pub mod event;
-pub mod given;
+pub mod verdict;

@@ -4,7 +4,7 @@ use mathlib.Core.Bool.{_&&_, cond}
 use mathlib.Core.List.{List}
 use lib.Dec.{leb, eqb}
 use lib.ListN.{length, getD}
-use Rattle.names.specs.Base.{within}
+use Rattle.terms.specs.Base.{within}
 use Rattle.runs.specs.declared.number.Number.{Number}
 use Rattle.runs.specs.declared.number.Number.the-variants.{Is, Not}
 

@@ -1,6 +1,6 @@
 // What an update changed: the table before it beside the table after it.
 use crate::say;
-use names::byte::wide;
+use terms::byte::wide;
 ghost use Prim.Native.Nat.{_≤_};
 ghost use lib.ListN.{length};
 
@@ -17,9 +17,10 @@ fn changed(old: &[u8], new: &[u8], i: usize) -> usize
     ensures { λ r. ⌜ r ≤ 1 ⌝ }
 {
     if byte_at(old, i) == byte_at(new, i) {
-        return 0;
+        0
+    } else {
+        1
     }
-    1
 }
 
 // How many bytes have changed.
@@ -40,19 +41,17 @@ fn say_at(old: &[u8], new: &[u8], i: usize) {
     if changed(old, new, i) == 0 {
         return;
     }
-    say::text(b"  ");
-    say::number(i);
-    say::text(b" ");
-    say::number(wide(byte_at(old, i)));
-    say::text(b" ");
-    say::number(wide(byte_at(new, i)));
-    say::text(b"\n");
+    say::byte(b' ');
+    say::spaced(i);
+    say::spaced(wide(byte_at(old, i)));
+    say::spaced(wide(byte_at(new, i)));
+    say::end();
 }
 
 // A line for each byte that has changed.
 pub fn say_each(old: &[u8], new: &[u8]) {
     if count(old, new) == 0 {
-        say::text(b"  nothing changes\n");
+        say::line(b"  nothing changes");
         return;
     }
     let mut i = 0;
@@ -63,7 +62,7 @@ pub fn say_each(old: &[u8], new: &[u8]) {
 }
 
 pub fn say_count(old: &[u8], new: &[u8]) {
-    say::text(b"  ");
-    say::number(count(old, new));
-    say::text(b" bytes change\n");
+    say::byte(b' ');
+    say::spaced(count(old, new));
+    say::line(b" bytes change");
 }

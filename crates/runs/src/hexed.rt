@@ -1,6 +1,6 @@
 // Bytes as lower-case hex, read and written.
 use crate::say;
-use names::byte::wide;
+use terms::byte::wide;
 ghost use Prim.Native.Nat.{_≤_};
 ghost use Rattle.io.specs.Counts.{Counts};
 
@@ -11,29 +11,15 @@ const NONE: u8 = 16;
 fn value_of(digit: u8) -> u8
     ensures { λ r. ⌜ r ≤ 16 ⌝ }
 {
-    if digit < b'0' {
-        return NONE;
+    match digit {
+        b'0'..=b'9' => digit - b'0',
+        b'a'..=b'f' => digit - b'a' + 10,
+        _ => NONE,
     }
-    if digit <= b'9' {
-        return digit - b'0';
-    }
-    if digit < b'a' {
-        return NONE;
-    }
-    if digit <= b'f' {
-        return digit - b'a' + 10;
-    }
-    NONE
 }
 
 // Pairs of digits: at least one, and nothing else.
 pub fn is_hex(w: &[u8]) -> bool {
-    if w.len() == 0 {
-        return false;
-    }
-    if w.len() % 2 == 1 {
-        return false;
-    }
     let mut i = 0;
     while i < w.len() {
         if value_of(w[i]) == NONE {
@@ -41,7 +27,7 @@ pub fn is_hex(w: &[u8]) -> bool {
         }
         i += 1;
     }
-    true
+    i % 2 == 0 && i != 0
 }
 
 fn byte_of(high: u8, low: u8) -> u8 {
@@ -78,5 +64,5 @@ pub fn say_bytes(s: &[u8]) {
         io::print_hex(1, wide(s[i]) as u64, 2);
         i += 1;
     }
-    say::text(b"\n");
+    say::end();
 }

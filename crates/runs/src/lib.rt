@@ -1,8 +1,10 @@
 // What the programs share that run a layer's boundaries.
 pub mod changes;
+pub mod dot;
 pub mod hexed;
 pub mod number;
 pub mod parts;
+pub mod pieces;
 pub mod say;
 pub mod script;
 pub mod shape;

@@ -1,7 +1,8 @@
 // Words as decimal numbers.
 use crate::parts::word;
-use names::byte::wide;
+use terms::byte::wide;
 ghost use mathlib.Core.Path.{_≡_};
+ghost use Prim.Native.Nat.{_≤_};
 ghost use Rattle.runs.specs.Decimal.{withDigit, decimal};
 
 pub enum Number {
@@ -62,4 +63,10 @@ pub fn value_of(w: &[u8]) -> usize {
 // The number that word k of a line is, or 0.
 pub fn number_at(l: &[u8], k: usize) -> usize {
     value_of(word(l, k))
+}
+
+pub fn at_most(most: usize, n: usize) -> usize
+    ensures { λ r. ⌜ r ≤ most ⌝ }
+{
+    if most < n { most } else { n }
 }

@@ -3,39 +3,56 @@ pub fn text(s: &[u8]) {
     io::write_all(1, s);
 }
 
+pub fn byte(x: u8) {
+    text(&[x]);
+}
+
+pub fn end() {
+    byte(b'\n');
+}
+
 pub fn number(n: usize) {
     io::print_decimal(1, n as u64);
 }
 
-pub fn line(s: &[u8]) {
-    text(s);
-    text(b"\n");
+// A number, and a space before it.
+pub fn spaced(n: usize) {
+    byte(b' ');
+    number(n);
 }
 
-// A line of the script that is no command.
-pub fn bad(l: &[u8]) {
-    text(b"? ");
-    line(l);
+pub fn line(s: &[u8]) {
+    text(s);
+    end();
 }
 
 // A label and a number.
 pub fn count(label: &[u8], n: usize) {
     text(label);
-    text(b" ");
-    number(n);
-    text(b"\n");
+    spaced(n);
+    end();
+}
+
+// A label and a word.
+pub fn told(label: &[u8], word: &[u8]) {
+    text(label);
+    byte(b' ');
+    line(word);
 }
 
 pub fn test(label: &[u8], holds: bool) {
-    text(label);
     if holds {
-        text(b" yes\n");
-        return;
+        told(label, b"yes");
+    } else {
+        told(label, b"no");
     }
-    text(b" no\n");
 }
 
 pub fn refused(label: &[u8]) {
-    text(label);
-    text(b" refused\n");
+    told(label, b"refused");
+}
+
+// A line of the script that is no command.
+pub fn bad(l: &[u8]) {
+    told(b"?", l);
 }

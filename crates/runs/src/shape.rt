@@ -1,33 +1,27 @@
 // Commands by their shapes: a word, and a letter for each word after it. n is a decimal number, h bytes in hex, m a mark,
-// s any word; p is any words to the end of the line.
+// s any word; p is bytes in pieces, to the end of the line.
 use crate::hexed::is_hex;
 use crate::number::is_number;
+use crate::parts::count;
 use crate::parts::part;
-use crate::parts::spaces;
 use crate::parts::word;
+use crate::pieces::are_bytes;
 
 pub fn is_cookie(w: &[u8]) -> bool {
     check::same(w, b"cookie")
 }
 
 fn is_mark(w: &[u8]) -> bool {
-    if is_cookie(w) {
-        return true;
-    }
-    check::same(w, b"document")
+    is_cookie(w) || check::same(w, b"document")
 }
 
 fn fits(w: &[u8], letter: u8) -> bool {
-    if letter == b'n' {
-        return is_number(w);
+    match letter {
+        b'n' => is_number(w),
+        b'h' => is_hex(w),
+        b'm' => is_mark(w),
+        _ => w.len() != 0,
     }
-    if letter == b'h' {
-        return is_hex(w);
-    }
-    if letter == b'm' {
-        return is_mark(w);
-    }
-    w.len() != 0
 }
 
 // The words after a line's first fit their letters.
@@ -35,22 +29,19 @@ fn are_fit(l: &[u8], letters: &[u8]) -> bool {
     let mut i = 0;
     while i < letters.len() {
         if letters[i] == b'p' {
-            return true;
+            return are_bytes(l, i + 1);
         }
         if !fits(word(l, i + 1), letters[i]) {
             return false;
         }
         i += 1;
     }
-    spaces(l) == letters.len()
+    count(l, b' ') == letters.len()
 }
 
 // The line has this shape.
 fn is(l: &[u8], shape: &[u8]) -> bool {
-    if check::same(word(l, 0), word(shape, 0)) {
-        return are_fit(l, word(shape, 1));
-    }
-    false
+    check::same(word(l, 0), word(shape, 0)) && are_fit(l, word(shape, 1))
 }
 
 // The place, from 1, of the line's shape in a list of so many; 0 if it is not there.

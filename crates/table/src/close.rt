@@ -1,12 +1,12 @@
 // A tab is selected, or the selected tab is closed.
-use crate::hang::clear;
-use crate::hang::unhang;
-use crate::layout::row;
-use crate::layout::selected;
-use crate::layout::set_selected;
-use crate::layout::tabs;
+use fields::layout::row;
+use fields::layout::selected;
+use fields::layout::set_selected;
+use fields::layout::tabs;
+use links::hang::clear;
+use links::hang::unhang;
 ghost use mathlib.Core.Path.{_≡_};
-ghost use Rattle.table.specs.Table.{picked, closed, TabLive, Closable};
+ghost use Rattle.fields.specs.Table.{picked, closed, TabLive, Closable};
 
 // A live tab is selected, even if it is already.
 pub fn pick(t: &mut [u8], s: usize, k: usize)

@@ -1,25 +1,26 @@
 // What the rules look up: whether a seat is let, the tab of an id, the process of a number, the process of an owner and a
 // suffix, a free process row. A process row is given by its number from 1, and 0 says that there is none.
-use crate::layout::ROWS;
-use crate::layout::SEATS;
-use crate::layout::SLOTS;
-use crate::layout::name;
-use crate::layout::number;
-use crate::layout::owner;
-use crate::layout::seat_of_id;
-use crate::layout::serial;
-use crate::layout::serial_of_id;
-use crate::layout::tenant;
-use crate::row::is_used;
-use names::fold::is_same;
+use fields::layout::ROWS;
+use fields::layout::SEATS;
+use fields::layout::SLOTS;
+use fields::layout::name;
+use fields::layout::number;
+use fields::layout::owner;
+use fields::layout::seat_of_id;
+use fields::layout::serial;
+use fields::layout::serial_of_id;
+use fields::layout::tenant;
+use fields::place::Place;
+use soundness::row::is_used;
+use terms::fold::is_same;
 ghost use mathlib.Core.Path.{_≡_};
 ghost use mathlib.Core.Bool.{not};
 ghost use Prim.Native.Nat.{_≤_};
 ghost use lib.ListN.{length};
 ghost use lib.Dec.{eqb};
-ghost use Rattle.table.specs.Table.{view, tenant, tableBytes, SeatOf, TabOf, RowOf};
-ghost use Rattle.table.specs.Table.{tabOf, processOf, processWith, freeProcess};
-ghost use Rattle.table.specs.Inner.{slotOf, tabHas, rowHas, rowWith};
+ghost use Rattle.fields.specs.Table.{view, tenant, tableBytes, SeatOf, TabOf, RowOf};
+ghost use Rattle.fields.specs.Table.{tabOf, processOf, processWith, freeProcess};
+ghost use Rattle.fields.specs.Inner.{slotOf, tabHas, rowHas, rowWith};
 
 // A seat that is let, for any number.
 pub fn is_let(t: &[u8], s: usize) -> bool
@@ -33,12 +34,6 @@ pub fn is_let(t: &[u8], s: usize) -> bool
         return false;
     }
     tenant(t, s) != 0
-}
-
-// Where a tab is live.
-pub enum Place {
-    Nowhere,
-    At { seat: usize, slot: usize },
 }
 
 fn is_tab(t: &[u8], s: usize, k: usize, n: usize) -> bool

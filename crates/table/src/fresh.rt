@@ -1,33 +1,33 @@
 // A fresh table: zeros, the trailer, and the seats as a sound book orders them.
-use crate::layout::SEATS;
-use crate::layout::set_separate;
-use crate::layout::set_tenant;
-use crate::layout::wipe;
+use fields::layout::SEATS;
+use fields::layout::set_options;
+use fields::layout::set_tenant;
+use fields::layout::wipe;
 use names::book::letting_of;
-use names::order::Letting;
+use terms::order::Letting;
 ghost use mathlib.Core.Path.{_≡_};
 ghost use mathlib.Core.Bool.{true};
 ghost use Prim.Native.Nat.{_+_};
 ghost use lib.ListN.{length};
-ghost use Rattle.names.specs.Names.{soundBook, tenantOf, separateOf};
-ghost use Rattle.table.specs.Table.{tableBytes, fresh};
-ghost use Rattle.table.specs.Inner.{Left, ordered, Orderable};
+ghost use Rattle.terms.specs.Names.{soundBook, tenantOf, optionsOf};
+ghost use Rattle.fields.specs.Table.{tableBytes, fresh};
+ghost use Rattle.fields.specs.Inner.{Left, ordered, Orderable};
 
 fn tenant_of(l: Letting) -> u8
     ensures { λ r. ⌜ r ≡ tenantOf l ⌝ }
 {
     match l {
         Letting::NotLet => 0,
-        Letting::Let { tenant, separate } => tenant,
+        Letting::Let { tenant, options } => tenant,
     }
 }
 
-fn separate_of(l: Letting) -> u8
-    ensures { λ r. ⌜ r ≡ separateOf l ⌝ }
+fn options_of(l: Letting) -> u8
+    ensures { λ r. ⌜ r ≡ optionsOf l ⌝ }
 {
     match l {
         Letting::NotLet => 0,
-        Letting::Let { tenant, separate } => separate,
+        Letting::Let { tenant, options } => options,
     }
 }
 
@@ -38,7 +38,7 @@ fn order_next(t: &mut [u8], book: &[u8], n: usize)
 {
     let s = n + 1;
     set_tenant(t, s, tenant_of(letting_of(book, s as u8)));
-    set_separate(t, s, separate_of(letting_of(book, s as u8)));
+    set_options(t, s, options_of(letting_of(book, s as u8)));
 }
 
 // The table of a book, whatever was there before.

@@ -1,16 +1,12 @@
 // What a tab may wait for: marks set and cleared.
-use crate::layout::set_waiting;
-use crate::layout::waiting;
+use fields::layout::set_waiting;
+use fields::layout::waiting;
+use fields::mark::Mark;
 ghost use mathlib.Core.Path.{_≡_};
 ghost use mathlib.Core.Bool.{true, false, _||_};
 ghost use Prim.Native.Nat.{_≤_};
 ghost use lib.Dec.{eqb};
-ghost use Rattle.table.specs.Table.{view, weight, waits, marked, unmarked, TabOf, TabLive};
-
-pub enum Mark {
-    Cookie,
-    Document,
-}
+ghost use Rattle.fields.specs.Table.{view, weight, waits, marked, unmarked, TabOf, TabLive};
 
 fn weight_of(m: Mark) -> usize
     ensures { λ r. ⌜ (r ≡ weight m) × (r ≤ 2) ⌝ }

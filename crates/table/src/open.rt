@@ -1,11 +1,11 @@
 // A tab is opened: in the lowest free slot, on the process row of its owner and suffix, or else on the lowest free one.
 use crate::find::free_process;
-use crate::hang::hang;
-use crate::hang::make;
 use crate::slots::free_slot;
-use crate::tab::owner_at;
+use links::hang::hang;
+use links::hang::make;
+use soundness::tab::owner_at;
 ghost use mathlib.Core.Path.{_≡_};
-ghost use Rattle.table.specs.Table.{view, ownerAt, processWith, opened, Openable};
+ghost use Rattle.fields.specs.Table.{view, ownerAt, processWith, opened, Openable};
 
 // p is the row that `process_with` finds for the seat's owner and the suffix, or 0.
 pub fn open(t: &mut [u8], s: usize, p: usize, suffix: &[u8])

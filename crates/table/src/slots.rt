@@ -1,11 +1,11 @@
 // The map of occupied slots: how many tabs are live, and the lowest free slot, each from the map's bits alone.
-use crate::layout::slots;
+use fields::layout::slots;
 ghost use mathlib.Core.Path.{_≡_};
 ghost use mathlib.Core.Bool.{true};
 ghost use Prim.Native.Nat.{_-_};
 ghost use lib.Count.{ones, trailingZeros};
-ghost use Rattle.names.specs.Laws.Bools.{Range};
-ghost use Rattle.table.specs.Table.{view, soundTable, freeSlot, liveTabs, HasSlot};
+ghost use Rattle.terms.specs.Base.{Range};
+ghost use Rattle.fields.specs.Table.{view, soundTable, freeSlot, liveTabs, HasSlot};
 
 fn ones_of(map: u16) -> u32
     ensures { λ r. ⌜ r ≡ ones map ⌝ }

@@ -1,13 +1,7 @@
 // The boundaries of the table crate, run: a script of commands on standard input, and what came of each.
-mod change;
+mod ask;
 mod command;
-mod damage;
-mod found;
-mod seat;
-mod shape;
-mod update;
-mod whole;
-mod why;
+mod poke;
 
 fn main() {
     let mut script = io::large_buffer();

@@ -21,7 +21,7 @@ pub fn action(party: u8, id: u32, tag: u8, payload: &[u8]) -> Action {
     (party, id, tag, payload.to_vec())
 }
 
-/// A book of orders (seat, tenant, separate) and listed names, with the trailer that belongs to them.
+/// A book of orders (seat, tenant, options) and listed names, with the trailer that belongs to them.
 pub fn book(orders: &[[u8; 3]], names: &[&str]) -> Vec<u8> {
     let mut bytes = orders.concat();
     let offset_of_names = bytes.len() as u16;

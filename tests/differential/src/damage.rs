@@ -13,7 +13,7 @@ pub type Damage = fn(&mut Random, &mut [u8]) -> Option<()>;
 pub const KINDS: [(&str, Damage); 38] = [
     ("any byte", any_byte),
     ("a tenant over 99", |r, t| seat_byte(r, t, idle_seats, 0, 100, 255)),
-    ("separate over 1", |r, t| seat_byte(r, t, shared_seats, 1, 2, 255)),
+    ("options over 1", |r, t| seat_byte(r, t, shared_seats, 1, 2, 255)),
     ("the zero byte of a seat", |r, t| seat_byte(r, t, view::let_seats, 3, 1, 255)),
     ("a byte in a seat not let", in_seat_not_let),
     ("a selected slot that is free", selected_free),

@@ -29,7 +29,7 @@ fn answer(packed: u64) -> String {
 }
 
 pub fn difference(seed: u64, case: u64, d: &Difference) {
-    println!("the library and the reference differ: --seed {seed} --case {case}; the call, made small:");
+    println!("the library and the reference differ: --seed {seed} --case {case}; the call:");
     println!(
         "  {} bytes lent, flush with the page {:?}",
         if d.call.step.is_some() { "step," } else { "start," },

@@ -10,7 +10,7 @@ use Rattle.reader.specs.Held.{held, came}
 use Rattle.reader.specs.Promises.{held-then}
 use Rattle.asksuffix.specs.Rule.Hosts.{hostBytes, hostWhole, firstHost}
 use Rattle.asksuffix.specs.Rule.Answers.{answerLine, answerLines, answers}
-use Rattle.asksuffix.specs.Turn.{past, last, Answered, Stopped, Turn, answered, stopped, read}
+use Rattle.asksuffix.specs.Turn.{past, last, HostAnswered, Stopped, Turn, answered, stopped, read}
 use Rattle.asksuffix.specs.Laws.Hosts.{whole-append, first-append, rest-append, hosts-whole, hosts-cut}
 use Rattle.reader.specs.declared.place.Place.{Place}
 
@@ -30,7 +30,7 @@ answers-cut b s h = ap (answerLines b) (hosts-cut s h)
 -- ---- a turn
 
 -- the line is all the text of a turn that answers
-line-is : {buf b o : List ℕ} {p : Place} {buf′ o′ : List ℕ} {p′ : Place} → Answered buf b o p buf′ o′ p′
+line-is : {buf b o : List ℕ} {p : Place} {buf′ o′ : List ℕ} {p′ : Place} → HostAnswered buf b o p buf′ o′ p′
     → take (p′ .filled) o′ ≡ answerLine b (firstHost (held buf p))
 unfolding past
 line-is {buf} {b} {o} {p} w =

@@ -9,9 +9,9 @@ use lib.ListN.{length, take, drop, length-append, length-drop, List·getD-append
 use lib.Seq.{take-append-le, drop-append-le}
 use lib.Dec.{leb}
 use borrow.Author.Tests.{leb-true, le-leb, lt-leb}
-use Rattle.names.specs.Laws.Bools.{and-left, and-right, cases}
-use Rattle.table.specs.Table.{num}
-use Rattle.table.specs.Laws.Num.{num-ext}
+use Rattle.terms.specs.Laws.Bools.{and-left, and-right, cases}
+use Rattle.terms.specs.Names.{num}
+use Rattle.terms.specs.Laws.Num.{num-ext}
 use Rattle.asksuffix.specs.Rule.Hosts.{hostBytes, hostWhole, firstHost, hostsIn, hosts}
 
 -- ---- the test, in the order of the code

@@ -8,9 +8,9 @@ use native.Mathlib.Omega.{arith}
 use native.Mathlib.Nat.{le-refl}
 use lib.ListN.{length, getD, take, drop, length-append, take-append-drop}
 use lib.Seq.{take-at, drop-at, take-add, length-take-le, getD-drop}
-use Rattle.names.specs.Laws.Bools.{cases}
-use Rattle.table.specs.Table.{num}
-use Rattle.table.specs.Laws.Num.{num-zero, num-suc}
+use Rattle.terms.specs.Laws.Bools.{cases}
+use Rattle.terms.specs.Names.{num}
+use Rattle.terms.specs.Laws.Num.{num-zero, num-suc}
 use Rattle.asksuffix.specs.Rule.Hosts.{hostBytes, hostWhole, firstHost, hosts, laidHost, laidHosts}
 use Rattle.asksuffix.specs.Laws.Hosts.{whole-short, whole-has, whole-in, shorter, hosts-nil, hosts-whole, hosts-cut}
 

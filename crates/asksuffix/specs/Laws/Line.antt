@@ -8,14 +8,14 @@ use native.Mathlib.Omega.{arith}
 use lib.ListN.{length, length-append}
 use lib.Dec.{eqb}
 use borrow.Author.Tests.{eqb-true, eqb-false}
-use Rattle.names.specs.Names.{soundBook, Answer, suffixOf}
-use Rattle.names.specs.Laws.Suffix.{suffix-facts}
-use Rattle.names.specs.Laws.Answer.{suffix-number, suffix-empty, Way, unsound, refused7, given, suffix-way}
+use Rattle.terms.specs.Names.{soundBook, Answer, suffixOf}
+use Rattle.terms.specs.Laws.Suffix.{suffix-facts}
+use Rattle.terms.specs.Laws.Answer.{suffix-number, suffix-empty, Way, unsound, refused7, given, suffix-way}
 use Rattle.log.specs.Log.{decimal, payload}
-use Rattle.log.specs.Inner.{Wrote}
+use Rattle.rules.specs.Inner.{Wrote}
 use Rattle.log.specs.Laws.Digits.{decimal-one}
 use Rattle.log.specs.Laws.Bound.{payload-none, payload-some}
-use Rattle.log.specs.Laws.Wrote.{wrote-is, wrote-three}
+use Rattle.rules.specs.Laws.Wrote.{wrote-is, wrote-three}
 use Rattle.asksuffix.specs.Rule.Answers.{mostText, answerLine}
 
 -- ---- the question's answer

@@ -8,8 +8,9 @@ use lib.ListN.{length}
 use Rattle.reader.specs.Held.{outset, Sound, held}
 use Rattle.asksuffix.specs.Rule.Hosts.{firstHost}
 use Rattle.asksuffix.specs.Rule.Answers.{mostText}
-use Rattle.asksuffix.specs.Turn.{Large, past, last, Turn, answered, stopped, read}
+use Rattle.asksuffix.specs.Turn.{AskBuffers, past, last, Turn, answered, stopped, read}
 use Rattle.asksuffix.specs.Laws.Line.{length-line}
+use Rattle.reader.specs.Laws.Past.{outset-sound}
 use Rattle.reader.specs.declared.place.Place.{Place}
 
 -- as many turns as the loop makes at most
@@ -24,7 +25,7 @@ pub record After (p : Place) (buf o : List ℕ) (p′ : Place) : Type 0 where
   pub fits : p′ .filled ≤ length o
   pub few : p′ .number ≤ p .number + 1
 
-pub turn-after : {buf b o : List ℕ} {p : Place} {buf′ o′ : List ℕ} {p′ : Place} → Sound p (length buf) → mostText ≤ length o
+turn-after : {buf b o : List ℕ} {p : Place} {buf′ o′ : List ℕ} {p′ : Place} → Sound p (length buf) → mostText ≤ length o
     → Turn buf b o p buf′ o′ p′ → After p buf o p′
 unfolding past last
 turn-after {buf} {b} {o} {p} s m (answered w) =
@@ -52,25 +53,22 @@ pub record Running (buf₀ o₀ buf o : List ℕ) (p : Place) (left : ℕ) : Typ
   pub counted : p .number + left ≤ turns
 
 pub running-first : (buf o : List ℕ) (left : ℕ) → left ≤ turns → Running buf o buf o outset left
-running-first buf o left h =
-    record {
-      sound = record { ahead = omega arith; inside = omega arith };
-      as-long = refl;
-      as-roomy = refl;
-      counted = omega arith;
-    }
+running-first buf o left h = record { sound = outset-sound (length buf); as-long = refl; as-roomy = refl; counted = omega arith }
 
-module _ {buf₀ o₀ buf o : List ℕ} {p : Place} {left : ℕ} (r : Running buf₀ o₀ buf o p left) (h : Large buf₀ o₀) where
-  pub running-large : Large buf o
+module _ {buf₀ o₀ buf o : List ℕ} {p : Place} {left : ℕ} (r : Running buf₀ o₀ buf o p left) (h : AskBuffers buf₀ o₀) where
+  pub running-large : AskBuffers buf o
   running-large =
       let a = r .as-long in
       let b = r .as-roomy in
       record { holds = omega (arith, h .holds); roomy = omega (arith, h .roomy) }
 
+  pub running-turn : {b buf′ o′ : List ℕ} {p′ : Place} → Turn buf b o p buf′ o′ p′ → After p buf o p′
+  running-turn w = turn-after (r .sound) (running-large .roomy) w
+
   pub running-next : {b buf′ o′ : List ℕ} {p′ : Place} → 0 < left → Turn buf b o p buf′ o′ p′ → length buf′ ≡ length buf
       → length o′ ≡ length o → Running buf₀ o₀ buf′ o′ p′ (left - 1)
   running-next l w k m =
-      let a = turn-after (r .sound) (running-large .roomy) w in
+      let a = running-turn w in
       let in-buf = a .sound in
       record {
         sound = record { ahead = in-buf .ahead; inside = omega (arith, in-buf .inside) };

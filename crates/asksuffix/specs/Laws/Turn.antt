@@ -6,15 +6,15 @@ use mathlib.Core.List.{List}
 use native.Mathlib.Nat.{zero-add}
 use native.Mathlib.Omega.{arith}
 use lib.ListN.{length, take, drop}
-use Rattle.table.specs.Table.{num}
-use Rattle.rules.specs.Rules.{over}
-use Rattle.log.specs.Inner.{Wrote}
+use Rattle.terms.specs.Names.{num}
+use Rattle.rules.specs.Sheet.{over}
+use Rattle.rules.specs.Inner.{Wrote}
 use Rattle.reader.specs.Held.{Sound, held, Filled}
 use Rattle.reader.specs.Laws.Fill.{length-held}
 use Rattle.reader.specs.Laws.Past.{sound-past, held-past}
 use Rattle.asksuffix.specs.Rule.Hosts.{mostBytes, hostBytes, hostWhole, firstHost}
 use Rattle.asksuffix.specs.Rule.Answers.{mostText, answerLine}
-use Rattle.asksuffix.specs.Turn.{Countable, Given, past, last, Gave, Turn, answered, stopped, read}
+use Rattle.asksuffix.specs.Turn.{Countable, Answerable, past, last, Gave, Turn, answered, stopped, read}
 use Rattle.asksuffix.specs.Laws.Hosts.{whole-has}
 use Rattle.reader.specs.declared.place.Place.{Place}
 
@@ -54,7 +54,7 @@ module _ (buf b o : List ℕ) (p : Place) where
   lent = take (p .have - p .place) (drop (p .place) buf)
 
   pub turn-given : {r : Bool} → Sound p (length buf) → length buf < 18446744073709551616 → mostText ≤ length o → Countable p
-      → r ≡ hostWhole lent → r ≡ true → Given lent o p
+      → r ≡ hostWhole lent → r ≡ true → Answerable lent o p
   unfolding held
   turn-given s fits roomy counted e h =
       let a = s .ahead in

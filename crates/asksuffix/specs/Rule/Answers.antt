@@ -2,7 +2,7 @@
 -- question is document 01's, "Names"; the words are the desk log's. Assumes nothing.
 use Prim.Native.Nat.{ℕ}
 use mathlib.Core.List.{List, [], _∷_, _++_}
-use Rattle.names.specs.Names.{suffixOf}
+use Rattle.terms.specs.Names.{suffixOf}
 use Rattle.log.specs.Log.{decimal, payload}
 use Rattle.asksuffix.specs.Rule.Hosts.{hosts}
 

@@ -5,7 +5,7 @@ use mathlib.Core.Bool.{Bool, _&&_, cond}
 use mathlib.Core.List.{List, [], _∷_, _++_}
 use lib.ListN.{length, take, drop}
 use lib.Dec.{leb}
-use Rattle.table.specs.Table.{num}
+use Rattle.terms.specs.Names.{num}
 
 -- no host takes more bytes, its length among them
 abbrev pub mostBytes : ℕ

@@ -6,10 +6,11 @@ use mathlib.Core.List.{List, _++_}
 use native.Mathlib.Omega.{arith}
 use lib.ListN.{length, drop, length-drop}
 use lib.Seq.{drop-drop, length-take-le}
-use Rattle.table.specs.Table.{num}
+use Rattle.terms.specs.Names.{num}
 use Rattle.log.specs.Rule.Line.{actionLine, actionLines}
-use Rattle.log.specs.Rule.Written.{Wrote, frameAt, framesOf, Holds}
-use Rattle.log.specs.Laws.Wrote.{wrote-none, wrote-then, wrote-is}
+use Rattle.log.specs.Rule.Written.{frameAt, framesOf, Holds}
+use Rattle.rules.specs.Inner.{Wrote}
+use Rattle.rules.specs.Laws.Wrote.{wrote-none, wrote-then, wrote-is}
 use Rattle.log.specs.Laws.Bound.{length-action}
 use Rattle.log.specs.Laws.Part.{from, from-is}
 

@@ -6,10 +6,10 @@ use mathlib.Core.Logic.{_⊎_, inl, inr}
 use mathlib.Core.List.{List}
 use native.Mathlib.Omega.{arith}
 use lib.ListN.{length}
-use Rattle.names.specs.Names.{soundBook}
-use Rattle.names.specs.Laws.Book.{sound-parts}
-use Rattle.table.specs.Table.{tableBytes}
-use Rattle.rules.specs.Rules.{startOf}
+use Rattle.terms.specs.Names.{soundBook}
+use Rattle.terms.specs.Laws.Book.{sound-parts}
+use Rattle.fields.specs.Table.{tableBytes}
+use Rattle.rules.specs.Sheet.{startOf}
 use Rattle.rules.specs.Laws.Start.{start-starts}
 use Rattle.log.specs.Rule.Line.{startLine}
 use Rattle.log.specs.Rule.Log.{logOf}

@@ -8,7 +8,7 @@ use native.Mathlib.Omega.{arith}
 use lib.ListN.{length, length-append}
 use lib.Dec.{eqb}
 use borrow.Author.Tests.{ne-eqb}
-use Rattle.rules.specs.Rules.{Frame, frames, Outcome}
+use Rattle.rules.specs.Sheet.{Frame, frames, Outcome}
 use Rattle.rules.specs.Inner.{size}
 use Rattle.rules.specs.Laws.Frame.{length-frames}
 use Rattle.log.specs.Rule.Line.{hex, number, payload, startLine, eventLine, actionLine, actionLines, lines}

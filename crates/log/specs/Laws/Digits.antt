@@ -9,8 +9,8 @@ use lib.ListN.{length, length-append}
 use lib.Dec.{ltb}
 use borrow.Author.Tests.{lt-ltb, le-ltb}
 use Rattle.log.specs.Rule.Line.{digits, decimal}
-use Rattle.log.specs.Rule.Written.{Wrote}
-use Rattle.log.specs.Laws.Wrote.{wrote-none, wrote-then, wrote-is}
+use Rattle.rules.specs.Inner.{Wrote}
+use Rattle.rules.specs.Laws.Wrote.{wrote-none, wrote-then, wrote-is}
 
 pub digits-none : (x : ℕ) → digits 0 x ≡ []
 unfolding digits

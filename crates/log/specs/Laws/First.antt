@@ -8,8 +8,8 @@ use native.Mathlib.Omega.{arith}
 use lib.ListN.{length}
 use lib.Dec.{leb, ltb}
 use borrow.Author.Tests.{leb-true, leb-false, ltb-true, ltb-false, le-leb, lt-leb}
-use Rattle.names.specs.Laws.Bools.{and-left, and-right, cases}
-use Rattle.table.specs.Table.{num}
+use Rattle.terms.specs.Laws.Bools.{and-left, and-right, cases}
+use Rattle.terms.specs.Names.{num}
 use Rattle.log.specs.Rule.Stream.{whole, oversized, firstBytes}
 
 module _ (s : List ℕ) where
@@ -104,14 +104,3 @@ module _ (s : List ℕ) where
       (λ h.
       cases (oversized s) (λ o. let l = oversized-has o .long in omega (arith, first-oversized o))
       (λ o. omega (arith, first-rest h o)))
-
-  pub first-small : firstBytes s ≤ 4106
-  first-small =
-      cases (whole s)
-      (λ h. let w = whole-has h .small in omega (arith, first-whole h))
-      (λ h.
-      cases (oversized s) (λ o. omega (arith, first-oversized o))
-      (λ o. let l = rest-small h o in omega (arith, first-rest h o)))
-
-  pub whole-long : whole s ≡ true → 10 ≤ firstBytes s
-  whole-long h = omega (arith, first-whole h)

@@ -3,7 +3,7 @@ use Prim.Native.Nat.{ℕ}
 use mathlib.Core.Path.{_≡_, refl, ap₂}
 use mathlib.Core.List.{List, [], _∷_}
 use lib.ListN.{length}
-use Rattle.rules.specs.Rules.{Frame, frames}
+use Rattle.rules.specs.Sheet.{Frame, frames}
 use Rattle.rules.specs.Laws.Head.{Front, frames-front}
 use Rattle.rules.specs.Laws.Widths.{Narrow, AllNarrow}
 use Rattle.log.specs.Rule.Written.{frameAt, framesOf, Holds}

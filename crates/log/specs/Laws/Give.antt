@@ -1,19 +1,20 @@
 -- One event given to the kernel, from what the step, and whoever wrote its lines, say of it. Assumes nothing.
-use Prim.Native.Nat.{ℕ, _+_, _-_, _*_, _/_, _%_, _≤_}
+use Prim.Native.Nat.{ℕ, _+_, _-_, _*_, _≤_}
 use mathlib.Core.Path.{_≡_, ap, ap₂, subst, _∙_}
 use mathlib.Core.List.{List}
 use native.Mathlib.Omega.{arith}
 use lib.ListN.{length, take, drop}
-use Rattle.rules.specs.Rules.{Outcome, roomNeeded, stepOf, Stepped, over}
-use Rattle.rules.specs.Promises.Step.{Answered, step-few, step-room, step-narrow, step-answer}
+use Rattle.rules.specs.Sheet.{Outcome, roomNeeded, stepOf, actionsIn, bytesIn, Stepped, over}
+use Rattle.rules.specs.Promises.Step.{ReadOut, step-few, step-room, step-narrow, step-answer}
 use Rattle.log.specs.Rule.Stream.{firstBytes}
 use Rattle.log.specs.Rule.Line.{lines}
 use Rattle.log.specs.Rule.Log.{step}
-use Rattle.log.specs.Rule.Written.{Wrote, Given, linesOf}
+use Rattle.log.specs.Rule.Written.{Holding, linesOf}
+use Rattle.rules.specs.Inner.{Wrote}
 use Rattle.log.specs.Rule.Serving.{eventAt, movedPast, Room, One}
 use Rattle.log.specs.declared.cursor.Cursor.{Cursor}
 use Rattle.log.specs.Laws.Part.{from, from-is}
-use Rattle.log.specs.Laws.Given.{answer-given, answer-lines}
+use Rattle.log.specs.Laws.Holding.{answer-held, answer-lines}
 
 -- the part of the stream that is given
 pub event-is : (s : List ℕ) (p x : ℕ) → x ≡ firstBytes (from s p) → take (p + x - p) (drop p s) ≡ eventAt s p
@@ -30,21 +31,21 @@ module _ (t b e : List ℕ) {o₀ t′ o₁ : List ℕ} {r : ℕ} (l : length o�
   did : Stepped x o₀ t′ o₁ r
   did = subst (λ (n : ℕ). Stepped (stepOf n t b e) o₀ t′ o₁ r) l w
 
-  says : Answered x o₀ o₁ r
-  says = subst (λ (n : ℕ). Answered (stepOf n t b e) o₀ o₁ r) l (step-answer t b e w)
+  says : ReadOut x o₀ o₁ r
+  says = subst (λ (n : ℕ). ReadOut (stepOf n t b e) o₀ o₁ r) l (step-answer t b e w)
 
   -- its frames are in the room
-  pub gave-given : Given r o₁
-  gave-given = answer-given says (step-narrow roomNeeded t b e)
+  pub gave-held : Holding r o₁
+  gave-held = answer-held says (step-narrow roomNeeded t b e)
 
   -- and its lines have room in what is kept for an event
   pub gave-room : {s o : List ℕ} {c : Cursor} {f : ℕ} → Room s o c f
-      → f + 65 + 88 * (r / 256 % 256) + 2 * (r / 65536) ≤ length o
+      → f + 65 + 88 * actionsIn r + 2 * bytesIn r ≤ length o
   gave-room h =
       let few = step-few roomNeeded t b e in
       let small = step-room roomNeeded t b e in
       let a = says .actions= in
-      let n = says .written= in
+      let n = says .bytes= in
       let m = h .roomy in
       omega arith
 

@@ -8,8 +8,8 @@ use lib.ListN.{length, getD, set, take, length-set}
 use lib.Seq.{take-suc, take-all}
 use borrow.Author.Tests.{lt-ltb, le-ltb}
 use Rattle.log.specs.Rule.Line.{hexDigit, hex}
-use Rattle.log.specs.Rule.Written.{Wrote}
-use Rattle.log.specs.Laws.Wrote.{wrote-none, wrote-byte, wrote-then, wrote-is}
+use Rattle.rules.specs.Inner.{Wrote}
+use Rattle.rules.specs.Laws.Wrote.{wrote-none, wrote-byte, wrote-then, wrote-is}
 
 pub hex-figure : (d : ℕ) → d < 10 → hexDigit d ≡ 48 + d
 unfolding hexDigit

@@ -5,21 +5,20 @@ use mathlib.Core.Logic.{_≢_}
 use mathlib.Core.List.{List, [], _∷_, _++_, append-assoc, append-nil}
 use native.Mathlib.Omega.{arith}
 use lib.ListN.{length, getD}
-use Rattle.names.specs.Base.{lastOf}
-use Rattle.names.specs.Laws.Bools.{Range}
+use Rattle.terms.specs.Base.{lastOf, Range}
 use Rattle.log.specs.Rule.Stream.{events, joined}
 use Rattle.log.specs.Laws.First.{whole-has, rest-small}
 use Rattle.log.specs.Laws.Stream.{events-nil}
-use Rattle.log.specs.Laws.Parted.{Alone, Large, Short, Parted, done, frame, large, short, events-frame}
+use Rattle.log.specs.Laws.Parted.{Alone, Oversize, Short, Parted, done, frame, large, short, events-frame}
 
 -- the events l, end to end, are the front of the stream s
 pub record Laid (s : List ℕ) (l : List (List ℕ)) : Type 0 where
   pub rest : List ℕ
   pub same : joined l ++ rest ≡ s
   -- something is left over only behind a head too large, which is the last event
-  pub over : rest ≢ [] → Large (lastOf l)
+  pub over : rest ≢ [] → Oversize (lastOf l)
 
-last-large : (e : List ℕ) (l : List (List ℕ)) → Large (lastOf l) → Large (lastOf (e ∷ l))
+last-large : (e : List ℕ) (l : List (List ℕ)) → Oversize (lastOf l) → Oversize (lastOf (e ∷ l))
 unfolding lastOf
 last-large e [] a = let n = a .end in absurd (omega arith)
 last-large e (m ∷ l) a = a
@@ -49,7 +48,7 @@ parted-frames (short a) i h = absurd (omega arith)
 frame-sized : (e : List ℕ) → Alone e → Range 1 4106 (length e)
 frame-sized e a = let w = whole-has e (a .all) in let l = a .end in omega arith
 
-large-sized : (e : List ℕ) → Large e → Range 1 4106 (length e)
+large-sized : (e : List ℕ) → Oversize e → Range 1 4106 (length e)
 large-sized e a = let l = a .end in omega arith
 
 short-sized : (e : List ℕ) → Short e → Range 1 4106 (length e)

@@ -1,5 +1,5 @@
 -- Words and lines written piece by piece, each piece where the one before it ends. Assumes nothing.
-use Prim.Native.Nat.{ℕ, _+_, _/_, _%_, _≤_}
+use Prim.Native.Nat.{ℕ, _+_, _≤_}
 use mathlib.Core.Path.{_≡_, refl}
 use mathlib.Core.Logic.{_≢_}
 use mathlib.Core.List.{List, [], _∷_, _++_, append-assoc}
@@ -7,10 +7,12 @@ use native.Mathlib.Omega.{arith}
 use lib.ListN.{length, getD, take, drop, length-drop}
 use lib.Seq.{length-take-le}
 use borrow.Author.Tests.{eq-eqb, ne-eqb}
-use Rattle.table.specs.Table.{num}
+use Rattle.terms.specs.Names.{num}
 use Rattle.log.specs.Rule.Line.{decimal, hex, number, payload, eventLine, actionLine, startLine, actionLines}
-use Rattle.log.specs.Rule.Written.{Wrote, frameAt, framesOf, linesOf}
-use Rattle.log.specs.Laws.Wrote.{wrote-is, wrote-then, wrote-three}
+use Rattle.log.specs.Rule.Written.{frameAt, framesOf, linesOf}
+use Rattle.rules.specs.Sheet.{numberIn, actionsIn, bytesIn}
+use Rattle.rules.specs.Inner.{Wrote}
+use Rattle.rules.specs.Laws.Wrote.{wrote-is, wrote-then, wrote-three}
 
 -- ---- words
 
@@ -59,9 +61,8 @@ wrote-action {p} {i} {t} {n} {x} s l h ep ei et en ex a b c d e =
     rw (ep, ei, et, en, ex, size) in
     wrote-is words refl (wrote-is (simp append-assoc) refl (wrote-three h (wrote-three h a b c) d e))
 
-pub wrote-lines : {o : List ℕ} {at : ℕ} {o₁ : List ℕ} {k : ℕ} {o₂ : List ℕ} {r : ℕ} (n answer : ℕ) (room : List ℕ)
-    → at ≤ length o → Wrote o at (eventLine n (answer % 256) (answer / 256 % 256)) o₁ k
-    → Wrote o₁ k (actionLines (framesOf (answer / 256 % 256) (take (answer / 65536) room))) o₂ r
-    → Wrote o at (linesOf n answer room) o₂ r
+pub wrote-lines : {o : List ℕ} {at : ℕ} {o₁ : List ℕ} {k : ℕ} {o₂ : List ℕ} {r x a w : ℕ} (n answer : ℕ) (room : List ℕ)
+    → x ≡ numberIn answer → a ≡ actionsIn answer → w ≡ bytesIn answer → at ≤ length o → Wrote o at (eventLine n x a) o₁ k
+    → Wrote o₁ k (actionLines (framesOf a (take w room))) o₂ r → Wrote o at (linesOf n answer room) o₂ r
 unfolding linesOf
-wrote-lines n answer room h a b = wrote-then h a b
+wrote-lines n answer room p q s h a b = rw (← p, ← q, ← s) (wrote-then h a b)

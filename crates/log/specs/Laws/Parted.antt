@@ -8,8 +8,8 @@ use native.Mathlib.Nat.{le-refl}
 use native.Mathlib.Omega.{arith}
 use lib.ListN.{length, take, drop, length-append, take-append-drop}
 use lib.Seq.{take-at, drop-at, take-length, length-take-le}
-use Rattle.names.specs.Laws.Bools.{cases}
-use Rattle.table.specs.Table.{num}
+use Rattle.terms.specs.Laws.Bools.{cases}
+use Rattle.terms.specs.Names.{num}
 use Rattle.log.specs.Rule.Stream.{whole, oversized, firstBytes, events}
 use Rattle.log.specs.Laws.First.{whole-has, oversized-has, first-whole, first-oversized, first-rest, first-inside}
 use Rattle.log.specs.Laws.Stream.{whole-in, oversized-in, oversized-cut, first-shorter, num-append, whole-append}
@@ -23,7 +23,7 @@ pub record Alone (e : List ℕ) : Type 0 where
   pub end : length e ≡ 10 + num e 6 4
 
 -- a head whose size exceeds 4,096, and no byte more
-pub record Large (e : List ℕ) : Type 0 where
+pub record Oversize (e : List ℕ) : Type 0 where
   pub over : oversized e ≡ true
   pub end : length e ≡ 10
 
@@ -40,7 +40,7 @@ pub data Parted : List ℕ → List (List ℕ) → Type 0 where
   -- a frame, and the events of what comes after it
   frame : {e s : List ℕ} {l : List (List ℕ)} → Alone e → Parted s l → Parted (e ++ s) (e ∷ l)
   -- what comes after a head too large is in no event
-  large : {e : List ℕ} (s : List ℕ) → Large e → Parted (e ++ s) (e ∷ [])
+  large : {e : List ℕ} (s : List ℕ) → Oversize e → Parted (e ++ s) (e ∷ [])
   short : {e : List ℕ} → Short e → Parted e (e ∷ [])
 
 -- ---- the first event of a stream
@@ -58,7 +58,7 @@ take-alone s h =
     let e = num-take (firstBytes s) s (omega arith) (first-inside s) in
     record { all = whole-in (take (firstBytes s) s) (omega arith); end = omega arith }
 
-take-large : (s : List ℕ) → oversized s ≡ true → Large (take (firstBytes s) s)
+take-large : (s : List ℕ) → oversized s ≡ true → Oversize (take (firstBytes s) s)
 take-large s h =
     let w = oversized-has s h in
     let f = first-oversized s h in
@@ -103,7 +103,7 @@ events-frame e z a =
     events-whole (e ++ z) (whole-append e z (a .all))
     ∙ ap₂ (λ x y. x ∷ events y) (take-at e z (firstBytes (e ++ z)) f) (drop-at e z (firstBytes (e ++ z)) f)
 
-events-large : (e z : List ℕ) → Large e → events (e ++ z) ≡ e ∷ []
+events-large : (e z : List ℕ) → Oversize e → events (e ++ z) ≡ e ∷ []
 events-large e z a =
     let o = oversized-append e z (a .over) in
     let f : length e ≡ firstBytes (e ++ z) = a .end ∙ sym (first-oversized (e ++ z) o) in

@@ -8,7 +8,7 @@ use native.Mathlib.Nat.{add-zero}
 use native.Mathlib.Omega.{arith}
 use lib.ListN.{length}
 use borrow.Author.Tests.{eq-eqb, ne-eqb}
-use Rattle.rules.specs.Rules.{startOf}
+use Rattle.rules.specs.Sheet.{startOf}
 use Rattle.log.specs.Rule.Stream.{events, joined}
 use Rattle.log.specs.Rule.Line.{startLine, lines}
 use Rattle.log.specs.Rule.Log.{step, logFrom, tableAfter, logOf}

@@ -9,8 +9,8 @@ use native.Mathlib.Omega.{arith}
 use lib.ListN.{length, drop}
 use lib.Dec.{eqb}
 use borrow.Author.Tests.{eqb-true, eqb-false, eq-eqb, ne-eqb}
-use Rattle.names.specs.Laws.Bools.{cases}
-use Rattle.table.specs.Base.{one}
+use Rattle.terms.specs.Laws.Bools.{cases}
+use Rattle.fields.specs.Base.{one}
 use Rattle.log.specs.Rule.Stream.{whole, oversized, firstBytes}
 use Rattle.log.specs.Rule.Reading.{oneMore, cut, ready}
 use Rattle.log.specs.declared.frame.Ready.{Ready}

@@ -8,7 +8,7 @@ use native.Mathlib.Nat.{le-refl}
 use native.Mathlib.Omega.{arith}
 use lib.ListN.{length, take, drop, length-append, length-drop}
 use lib.Seq.{length-take-le}
-use Rattle.names.specs.Laws.Bools.{cases}
+use Rattle.terms.specs.Laws.Bools.{cases}
 use Rattle.log.specs.Rule.Stream.{whole, firstBytes, joined}
 use Rattle.log.specs.Rule.Log.{logFrom, tableAfter}
 use Rattle.log.specs.Rule.Reading.{taken, oneMore, ready, Reads, comes, ends, gives, stops}
@@ -45,7 +45,7 @@ serves-reads {k} (quits m e) = stops k m e
 
 -- ---- to the end
 
-pub record Served (k : ℕ) (b held : List ℕ) (ended : Bool) (n : ℕ) (t : List ℕ) (more : List (List ℕ)) : Type 0 where
+pub record ServesSome (k : ℕ) (b held : List ℕ) (ended : Bool) (n : ℕ) (t : List ℕ) (more : List (List ℕ)) : Type 0 where
   pub text : List ℕ
   pub way : Serves k b held ended n t more text
 
@@ -76,32 +76,32 @@ ready-ended k s e =
 
 module _ (k : ℕ) (b : List ℕ) (ended : Bool) (more : List (List ℕ)) where
   serve : (held : List ℕ) (n : ℕ) (t : List ℕ)
-      → (ready k ended held ≡ record { count = 0; last = false } → Served k b held ended n t more)
+      → (ready k ended held ≡ record { count = 0; last = false } → ServesSome k b held ended n t more)
       → ((m : ℕ) → ready k ended held ≡ record { count = suc m; last = false }
-      → Served k b (left (suc m) held) ended (n + suc m) (tableAfter t b (taken (suc m) held)) more)
-      → Served k b held ended n t more
+      → ServesSome k b (left (suc m) held) ended (n + suc m) (tableAfter t b (taken (suc m) held)) more)
+      → ServesSome k b held ended n t more
   serve held n t next later = go (ready k ended held .count) (ready k ended held .last) refl
     where
-      go : (m : ℕ) (x : Bool) → ready k ended held ≡ record { count = m; last = x } → Served k b held ended n t more
+      go : (m : ℕ) (x : Bool) → ready k ended held ≡ record { count = m; last = x } → ServesSome k b held ended n t more
       go zero false e = next e
       go (suc m) false e = let d = later m e in record { text = _; way = serves m e (d .way) }
       go m true e = record { text = _; way = quits m e }
 
   serve-in : (j : ℕ)
       → ((held : List ℕ) (n : ℕ) (t : List ℕ) → ready k ended held ≡ record { count = 0; last = false }
-      → Served k b held ended n t more)
-      → (held : List ℕ) (n : ℕ) (t : List ℕ) → length held ≤ j → Served k b held ended n t more
+      → ServesSome k b held ended n t more)
+      → (held : List ℕ) (n : ℕ) (t : List ℕ) → length held ≤ j → ServesSome k b held ended n t more
   serve-in zero next held n t h =
       serve held n t (next held n t) (λ m e. let some = ready-some k ended held m e in absurd (omega arith))
   serve-in (suc j) next held n t h =
       serve held n t (next held n t) (λ m e.
       serve-in j next (left (suc m) held) (n + suc m) (tableAfter t b (taken (suc m) held)) (left-shorter j m held h))
 
-serves-ended : (k : ℕ) (b held : List ℕ) (n : ℕ) (t : List ℕ) → Served (suc k) b held true n t []
+serves-ended : (k : ℕ) (b held : List ℕ) (n : ℕ) (t : List ℕ) → ServesSome (suc k) b held true n t []
 serves-ended k b held n t =
     serve-in (suc k) b true [] (length held) (λ s i u e. absurd (ready-ended k s e)) held n t (le-refl (length held))
 
-serves-suc : (k : ℕ) (b held : List ℕ) (n : ℕ) (t : List ℕ) (cs : List (List ℕ)) → Served (suc k) b held false n t cs
+serves-suc : (k : ℕ) (b held : List ℕ) (n : ℕ) (t : List ℕ) (cs : List (List ℕ)) → ServesSome (suc k) b held false n t cs
 serves-suc k b held n t [] =
     serve-in (suc k) b false [] (length held) (λ s i u e.
     let d = serves-ended k b s i u in record { text = d .text; way = closes e (d .way) })
@@ -111,6 +111,6 @@ serves-suc k b held n t (c ∷ cs) =
     let d = serves-suc k b (s ++ c) i u cs in record { text = d .text; way = reads c e (d .way) })
     held n t (le-refl (length held))
 
-pub serves-exist : (k : ℕ) (b held : List ℕ) (n : ℕ) (t : List ℕ) (cs : List (List ℕ)) → 0 < k → Served k b held false n t cs
+pub serves-exist : (k : ℕ) (b held : List ℕ) (n : ℕ) (t : List ℕ) (cs : List (List ℕ)) → 0 < k → ServesSome k b held false n t cs
 serves-exist zero b held n t cs h = absurd (omega arith)
 serves-exist (suc k) b held n t cs h = serves-suc k b held n t cs

@@ -7,7 +7,7 @@ use native.Mathlib.Numerals.{add-one}
 use native.Mathlib.Omega.{arith}
 use lib.ListN.{length, take, drop, length-append, length-drop}
 use lib.Seq.{length-take-le}
-use Rattle.rules.specs.Rules.{roomNeeded, over}
+use Rattle.rules.specs.Sheet.{roomNeeded, over}
 use Rattle.rules.specs.Laws.Over.{over-nothing, over-over}
 use Rattle.rules.specs.Promises.Step.{step-few, step-room}
 use Rattle.log.specs.Rule.Stream.{firstBytes, joined}

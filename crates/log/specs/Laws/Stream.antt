@@ -11,9 +11,9 @@ use lib.ListN.{length, take, drop, length-append, length-drop, List·getD-append
 use lib.Seq.{drop-nil}
 use lib.Dec.{eqb, eqb·suc-zero}
 use borrow.Author.Tests.{le-leb, lt-ltb, eq-eqb}
-use Rattle.names.specs.Laws.Bools.{cases, fails}
-use Rattle.table.specs.Table.{num}
-use Rattle.table.specs.Laws.Num.{num-ext}
+use Rattle.terms.specs.Laws.Bools.{cases, fails}
+use Rattle.terms.specs.Names.{num}
+use Rattle.terms.specs.Laws.Num.{num-ext}
 use Rattle.log.specs.Rule.Stream.{whole, oversized, firstBytes, eventsIn, events, joined}
 use Rattle.log.specs.Laws.First.{Whole, whole-has, Oversized, oversized-has, first-whole, first-oversized, first-rest}
 

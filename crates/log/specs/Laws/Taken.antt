@@ -10,8 +10,8 @@ use native.Mathlib.Omega.{arith}
 use lib.ListN.{length, take, drop, length-append}
 use lib.Seq.{drop-drop, length-take-le, take-append-le, drop-append-le}
 use lib.Dec.{eqb, eqb·suc-zero}
-use Rattle.names.specs.Laws.Bools.{cases}
-use Rattle.table.specs.Base.{one}
+use Rattle.terms.specs.Laws.Bools.{cases}
+use Rattle.fields.specs.Base.{one}
 use Rattle.log.specs.Rule.Stream.{whole, oversized, firstBytes, events, joined}
 use Rattle.log.specs.Rule.Reading.{taken, oneMore, cut, ready}
 use Rattle.log.specs.declared.frame.Ready.{Ready}

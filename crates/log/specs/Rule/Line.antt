@@ -6,7 +6,7 @@ use mathlib.Core.Bool.{cond}
 use mathlib.Core.List.{List, [], _∷_, _++_}
 use lib.ListN.{length}
 use lib.Dec.{eqb, ltb}
-use Rattle.rules.specs.Rules.{Frame, Outcome}
+use Rattle.rules.specs.Sheet.{Frame, Outcome}
 
 -- ---- numbers and bytes
 

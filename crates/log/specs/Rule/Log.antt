@@ -3,7 +3,7 @@ use Prim.Native.Nat.{ℕ, _+_}
 use mathlib.Core.Bool.{cond}
 use mathlib.Core.List.{List, [], _∷_, _++_}
 use lib.Dec.{eqb}
-use Rattle.rules.specs.Rules.{Outcome, roomNeeded, stepOf, startOf}
+use Rattle.rules.specs.Sheet.{Outcome, roomNeeded, stepOf, startOf}
 use Rattle.log.specs.Rule.Stream.{events}
 use Rattle.log.specs.Rule.Line.{startLine, lines}
 

@@ -6,7 +6,7 @@ use mathlib.Core.Path.{_≡_}
 use mathlib.Core.List.{List, [], _∷_, _++_}
 use lib.ListN.{length, take, drop}
 use lib.Dec.{eqb}
-use Rattle.table.specs.Base.{one}
+use Rattle.fields.specs.Base.{one}
 use Rattle.log.specs.Rule.Stream.{whole, oversized, firstBytes, joined}
 use Rattle.log.specs.Rule.Log.{logFrom, tableAfter}
 use Rattle.log.specs.declared.frame.Ready.{Ready}

@@ -4,7 +4,7 @@ use Prim.Native.Nat.{ℕ, _+_, _≤_, _<_}
 use mathlib.Core.Path.{_≡_}
 use mathlib.Core.List.{List}
 use lib.ListN.{length, take, drop}
-use Rattle.rules.specs.Rules.{over}
+use Rattle.rules.specs.Sheet.{over}
 use Rattle.log.specs.Rule.Stream.{firstBytes, joined}
 use Rattle.log.specs.Rule.Line.{lines}
 use Rattle.log.specs.Rule.Log.{step, logFrom, tableAfter}

@@ -5,7 +5,7 @@ use mathlib.Core.Bool.{Bool, _&&_, cond}
 use mathlib.Core.List.{List, [], _∷_, _++_}
 use lib.ListN.{length, take, drop}
 use lib.Dec.{eqb, leb, ltb}
-use Rattle.table.specs.Table.{num}
+use Rattle.terms.specs.Names.{num}
 
 -- the stream begins with a head of ten bytes and all of the payload that it announces
 unfoldable pub whole : List ℕ → Bool

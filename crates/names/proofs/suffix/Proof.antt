@@ -7,15 +7,15 @@ use lib.ListN.{length}
 use borrow.Author.Tests.{not-true, not-false}
 use native.Mathlib.Omega.{arith}
 use borrow.Author.Needs.{needs}
-use Rattle.names.specs.Names.{isName, listed, soundBook}
-use Rattle.names.specs.Inner.{matched, withLabel}
-use Rattle.names.specs.Laws.Bools.{within-in, within-low, within-high}
-use Rattle.names.specs.Laws.Lists.{take-rest}
-use Rattle.names.specs.Steps.Suffix.{answered-unsound, answered-malformed, answered-out, answered-given}
+use Rattle.terms.specs.Names.{isName, soundBook}
+use Rattle.terms.specs.Inner.{publicOf, withLabel}
+use Rattle.terms.specs.Laws.Bools.{within-in, within-low, within-high}
+use Rattle.terms.specs.Laws.Lists.{take-rest}
+use Rattle.terms.specs.Steps.Suffix.{answered-unsound, answered-malformed, answered-out, answered-given}
 use Rattle.names.proofs.suffix.Statement.{statement}
 use Rattle.names.proofs.suffix.Tie as tie
 
--- past the first test the book is sound, past the second the host is a name, and the label is added to the longest match
+-- past the first test the book is sound, past the second the host is a name, and the label is added to the public part
 sound : (c : tie.Else1) → soundBook (c .before .before .before .before .args .book .now) ≡ true
 sound c = sym (c .before .is-sound .ensures) ∙ not-false _ (c .if1 .left)
 
@@ -23,8 +23,14 @@ named : (c : tie.Else2) → isName (c .before .before .before .before .before .b
 named c = sym (c .before .is-name .ensures) ∙ not-false _ (c .if2 .left)
 
 taken : (c : tie.After-with-label)
-    → c .with-label .result ≡ withLabel (c .before .before .before .before .before .before .before .before .args .host .now) (matched (c .before .before .before .before .before .before .before .before .args .host .now) (listed (c .before .before .before .before .before .before .before .before .args .book .now)))
-taken c = c .with-label .ensures .0 ∙ ap (withLabel (c .before .before .before .before .before .before .before .before .args .host .now)) (c .before .matched-in .ensures)
+    → c .with-label .result
+    ≡ withLabel (c .before .before .before .before .before .before .before .before .args .host .now)
+    (publicOf (c .before .before .before .before .before .before .before .before .args .book .now)
+    (c .before .before .before .before .before .before .before .before .args .host .now))
+taken c =
+    c .with-label .ensures .0
+    ∙ ap (withLabel (c .before .before .before .before .before .before .before .before .args .host .now))
+    (c .before .public-of .ensures)
 
 is-sound-requires : tie.Need-is-sound-requires
 is-sound-requires c κs = search needs
@@ -36,8 +42,9 @@ returns : tie.Need-returns
 returns c =
     let a = c .before .before .before .before .before .before .args in
     let r = c .refuse .ensures in
-    answered-unsound (a .host .now) (a .book .now) _ _ _ _ (sym (c .before .before .before .is-sound .ensures) ∙ not-true _ (c .before .before .if1 .taken))
-    (record { says = omega arith; empty = r .empty; block = r .block; byte = r .byte })
+    answered-unsound (a .host .now) (a .book .now) _ _ _ _
+    (sym (c .before .before .before .is-sound .ensures) ∙ not-true _ (c .before .before .if1 .taken))
+    (record { says = omega arith; gives = r .gives; block = r .block; byte = r .byte })
 
 is-name-requires : tie.Need-is-name-requires
 is-name-requires c κs = search needs
@@ -49,10 +56,11 @@ returns-2 : tie.Need-returns-2
 returns-2 c =
     let a = c .before .before .before .before .before .before .before .before .args in
     answered-malformed (a .host .now) (a .book .now) _ _ _ _
-    (sound (c .before .before .before .before)) (sym (c .before .before .before .is-name .ensures) ∙ not-true _ (c .before .before .if2 .taken)) (c .refuse2 .ensures)
+    (sound (c .before .before .before .before))
+    (sym (c .before .before .before .is-name .ensures) ∙ not-true _ (c .before .before .if2 .taken)) (c .refuse2 .ensures)
 
-matched-in-requires : tie.Need-matched-in-requires
-matched-in-requires c κs = sound (c .before .before)
+public-of-requires : tie.Need-public-of-requires
+public-of-requires c κs = sound (c .before .before)
 
 with-label-requires : tie.Need-with-label-requires
 with-label-requires c κs = search needs
@@ -64,7 +72,9 @@ returns-3 : tie.Need-returns-3
 returns-3 c =
     let a = c .before .before .before .before .before .before .before .before .before .before .before .args in
     let r = c .before .before .before .with-label .result in
-    answered-out (a .host .now) (a .book .now) _ _ _ _ r (sound (c .before .before .before .before .before .before .before)) (named (c .before .before .before .before .before)) (taken (c .before .before .before))
+    answered-out (a .host .now) (a .book .now) _ _ _ _ r
+    (sound (c .before .before .before .before .before .before .before))
+    (named (c .before .before .before .before .before)) (taken (c .before .before .before))
     (within-low 1 64 r (omega arith)) (c .refuse3 .ensures)
 
 refuse-requires-4 : tie.Need-refuse-requires-4
@@ -74,7 +84,9 @@ returns-4 : tie.Need-returns-4
 returns-4 c =
     let a = c .before .before .before .before .before .before .before .before .before .before .before .before .args in
     let r = c .before .before .before .before .with-label .result in
-    answered-out (a .host .now) (a .book .now) _ _ _ _ r (sound (c .before .before .before .before .before .before .before .before)) (named (c .before .before .before .before .before .before)) (taken (c .before .before .before .before))
+    answered-out (a .host .now) (a .book .now) _ _ _ _ r
+    (sound (c .before .before .before .before .before .before .before .before))
+    (named (c .before .before .before .before .before .before)) (taken (c .before .before .before .before))
     (within-high 1 64 r (omega arith)) (c .refuse4 .ensures)
 
 sub-from : tie.Need-sub-from
@@ -94,9 +106,11 @@ returns-5 c =
     let a = c .before .before .before .before .before .before .before .before .before .before .before .args in
     let h = a .host .now in
     let r = c .before .before .before .with-label .result in
-    answered-given h (a .book .now) _ _ _ _ r (sound (c .before .before .before .before .before .before .before)) (named (c .before .before .before .before .before)) (taken (c .before .before .before))
-    (within-in 1 64 r (omega arith) (omega arith)) refl (take-rest (length h - r) h)
-    (omega arith) (omega arith)
+    answered-given h (a .book .now) _ _ _ _ r
+    (sound (c .before .before .before .before .before .before .before))
+    (named (c .before .before .before .before .before)) (taken (c .before .before .before))
+    (within-in 1 64 r (omega arith) (omega arith))
+    (record { says = refl; gives = take-rest (length h - r) h; block = omega arith; byte = omega arith })
 
 pub suffix-spec : {M : Type 1} → statement M
 suffix-spec =
@@ -108,7 +122,7 @@ suffix-spec =
     is-name-requires
     refuse-requires-2
     returns-2
-    matched-in-requires
+    public-of-requires
     with-label-requires
     refuse-requires-3
     returns-3

@@ -1,13 +1,17 @@
--- What is held once some of it was given, from the front. Assumes nothing.
+-- What is held at the beginning, and once some of it was given, from the front. Assumes nothing.
 use Prim.Native.Nat.{ℕ, _+_, _-_, _≤_}
 use mathlib.Core.Path.{_≡_, sym, ap, ap₂, _∙_}
 use mathlib.Core.List.{List}
 use native.Mathlib.Omega.{arith}
 use lib.ListN.{length, take, drop, length-drop}
 use lib.Seq.{length-take-le, take-add, drop-at, drop-drop}
-use Rattle.reader.specs.Held.{Sound, held}
+use Rattle.reader.specs.Held.{outset, Sound, held}
 use Rattle.reader.specs.Laws.Fill.{length-held}
 use Rattle.reader.specs.declared.place.Place.{Place}
+
+-- at the beginning nothing is held
+pub outset-sound : (n : ℕ) → Sound outset n
+outset-sound n = record { ahead = omega arith; inside = omega arith }
 
 drop-take : (x n : ℕ) (l : List ℕ) → x ≤ n → x ≤ length l → drop x (take n l) ≡ take (n - x) (drop x l)
 drop-take x n l h k =

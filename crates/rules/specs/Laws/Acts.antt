@@ -8,19 +8,19 @@ use native.Mathlib.Omega.{arith}
 use lib.ListN.{getD, drop}
 use lib.Dec.{eqb}
 use borrow.Author.Tests.{eqb-true, eqb-false, not-true, not-false}
-use Rattle.names.specs.Base.{within}
-use Rattle.names.specs.Names.{soundBook}
-use Rattle.names.specs.Laws.Bools.{cases, and-left, and-right, within-at}
-use Rattle.table.specs.Table.{tenant, selected, row, tabs, mostOpens, view, soundTable, live, ownerAt, processWith, waits}
-use Rattle.table.specs.Table.{Closable}
-use Rattle.table.specs.declared.mark.Mark.the-variants.{Cookie, Document}
-use Rattle.table.specs.Laws.Asked.{let-seat, selected-tab}
-use Rattle.table.specs.Laws.Tab.{tab-found}
-use Rattle.table.specs.Laws.Table.{table-facts}
-use Rattle.table.specs.Laws.There.{live-there}
+use Rattle.terms.specs.Base.{within}
+use Rattle.terms.specs.Names.{soundBook}
+use Rattle.terms.specs.Laws.Bools.{cases, and-left, and-right, within-at}
+use Rattle.fields.specs.Table.{tenant, selected, row, tabs, mostOpens, view, soundTable, live, ownerAt, processWith, waits}
+use Rattle.fields.specs.Table.{Closable}
+use Rattle.fields.specs.declared.mark.Mark.the-variants.{Cookie, Document}
+use Rattle.fields.specs.Laws.Asked.{let-seat, selected-tab}
+use Rattle.fields.specs.Laws.Tab.{tab-found}
+use Rattle.fields.specs.Laws.Table.{table-facts}
+use Rattle.fields.specs.Laws.There.{live-there}
 use Rattle.rules.specs.Rule.Frame.{Frame}
 use Rattle.rules.specs.Rule.Action.{key}
-use Rattle.rules.specs.Rule.Desk.{desk, deskAt, Change, changed, Reply, reply, refuse}
+use Rattle.rules.specs.Rule.Desk.{desk, deskAt, Change, changed, Reply, reply, refuse, idAt, processAt, suffixAt}
 use Rattle.rules.specs.Rule.Allow.{cookieDomain, isUrl}
 use Rattle.rules.specs.Rule.Seat.{only, acceptable, openActions, openRule, selectRule, closeActions, closeRule, passRule}
 use Rattle.rules.specs.Rule.Seat.{plain, keyRule}
@@ -28,7 +28,7 @@ use Rattle.rules.specs.Rule.Tab.{ask, displayRule, socketRule, urlRule, 
 use Rattle.rules.specs.Rule.Step.{refused, made}
 use Rattle.rules.specs.Laws.Cases.{either}
 use Rattle.rules.specs.Laws.Open.{openable}
-use Rattle.rules.specs.Laws.Happens.{From, TabAt, Opens, did, idAt, processAt, suffixAt, Happens, nothing, joins, renews}
+use Rattle.rules.specs.Laws.Happens.{From, TabAt, Opens, did, Happens, nothing, joins, renews}
 use Rattle.rules.specs.Laws.Happens.{selects, leaves, ends, types, paints, sockets, fetches, stores, gets, denies}
 use Rattle.rules.specs.Laws.Happens.{results, documents}
 
@@ -53,8 +53,8 @@ module _ (t b e : List ℕ) (s : ℕ) (sound : soundTable t ≡ true) (l : view 
       let p = processWith (view t) (ownerAt (view t) s) x in
       either (HappensAt t b e s) (not (soundBook b)) _ _ (λ _. nothing 6 (λ z. omega arith))
       (λ o. either (HappensAt t b e s) (not (acceptable b x)) _ _ (λ _. nothing 7 (λ z. omega arith))
-      (λ a. either (HappensAt t b e s) (eqb (d .tabs) 10) _ _ (λ _. nothing 8 (λ z. omega arith))
-      (λ n. either (HappensAt t b e s) (eqb (d .opens) mostOpens) _ _ (λ _. nothing 9 (λ z. omega arith))
+      (λ a. either (HappensAt t b e s) (eqb (d .tabCount) 10) _ _ (λ _. nothing 8 (λ z. omega arith))
+      (λ n. either (HappensAt t b e s) (d .spent) _ _ (λ _. nothing 9 (λ z. omega arith))
       (λ m.
       let ok = not-false (acceptable b x) a in
       let w : Opens t b e s

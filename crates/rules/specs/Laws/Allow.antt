@@ -4,8 +4,8 @@ use mathlib.Core.Bool.{true, not}
 use mathlib.Core.List.{List}
 use Prim.Native.Nat.{ℕ}
 use lib.Dec.{eqb}
-use Rattle.names.specs.Names.{isName, under}
-use Rattle.names.specs.Laws.Bools.{and-left, and-right}
+use Rattle.terms.specs.Names.{isName, under}
+use Rattle.terms.specs.Laws.Bools.{and-left, and-right}
 use Rattle.rules.specs.Rule.Allow.{cookieDomain, socketHost, socketAllowed}
 
 pub record Inside (name suffix : List ℕ) : Type 0 where

@@ -3,37 +3,33 @@ use mathlib.Core.Path.{_≡_, refl, ap, _∙_}
 use mathlib.Core.Bool.{Bool, true, false, not, cond}
 use mathlib.Core.Logic.{_≢_}
 use mathlib.Core.List.{List}
-use Prim.Native.Nat.{ℕ, _/_, _%_, _≤_, _<_}
+use Prim.Native.Nat.{ℕ, _≤_, _<_}
 use native.Mathlib.Nat.{zero-add}
 use native.Mathlib.Omega.{arith}
 use lib.ListN.{length, take, drop}
 use lib.Dec.{ltb}
 use borrow.Author.Tests.{ltb-false}
-use Rattle.table.specs.Table.{soundTable}
+use Rattle.fields.specs.Table.{soundTable}
 use Rattle.rules.specs.Rule.Frame.{Frame, frames, over}
 use Rattle.rules.specs.Rule.Event.{readingOf}
-use Rattle.rules.specs.Rule.Step.{Outcome, refused, readRule, roomNeeded, stepOf, packed, answer, Stepped}
+use Rattle.rules.specs.Rule.Step.{Outcome, refused, readRule, roomNeeded, stepOf, packed, numberIn, actionsIn, bytesIn, answer, Stepped}
 use Rattle.rules.specs.Laws.Over.{over-nothing, over-front, over-past, length-over}
 use Rattle.rules.specs.Laws.Outcome.{step-orderly}
 
 -- ---- the three numbers in one
 
-module _ (n a w : ℕ) (h : n < 256) (k : a < 256) where
-  pub packed-number : packed n a w % 256 ≡ n
-  unfolding packed
+module _ (n a w : ℕ) (h : n < 256) (k : a < 256) (l : w < 65536) where
+  pub packed-number : numberIn (packed n a w) ≡ n
+  unfolding packed numberIn
   packed-number = omega arith
 
-  pub packed-actions : packed n a w / 256 % 256 ≡ a
-  unfolding packed
+  pub packed-actions : actionsIn (packed n a w) ≡ a
+  unfolding packed actionsIn
   packed-actions = omega arith
 
-  pub packed-written : packed n a w / 65536 ≡ w
-  unfolding packed
-  packed-written = omega arith
-
-  pub packed-top : w < 65536 → packed n a w < 4294967296
-  unfolding packed
-  packed-top l = omega arith
+  pub packed-bytes : bytesIn (packed n a w) ≡ w
+  unfolding packed bytesIn
+  packed-bytes = omega arith
 
 -- ---- a step's
 
@@ -58,27 +54,26 @@ module _ (t b e : List ℕ) {o t′ o′ : List ℕ} {r : ℕ} (w : Stepped (ste
   few : length (stepOf (length o) t b e .actions) < 256
   few = let n = step-orderly t b e (length o) .few in omega arith
 
-  pub answer-number : r % 256 ≡ stepOf (length o) t b e .number
+  short : length (frames (stepOf (length o) t b e .actions)) < 65536
+  short = let n = step-orderly t b e (length o) .fits in omega arith
+
+  pub answer-number : numberIn r ≡ stepOf (length o) t b e .number
   unfolding answer
-  answer-number = rw (w .says) (packed-number _ _ _ small few)
+  answer-number = rw (w .says) (packed-number _ _ _ small few short)
 
-  pub answer-actions : r / 256 % 256 ≡ length (stepOf (length o) t b e .actions)
+  pub answer-actions : actionsIn r ≡ length (stepOf (length o) t b e .actions)
   unfolding answer
-  answer-actions = rw (w .says) (packed-actions _ _ _ small few)
+  answer-actions = rw (w .says) (packed-actions _ _ _ small few short)
 
-  pub answer-written : r / 65536 ≡ length (frames (stepOf (length o) t b e .actions))
+  pub answer-bytes : bytesIn r ≡ length (frames (stepOf (length o) t b e .actions))
   unfolding answer
-  answer-written = rw (w .says) (packed-written _ _ _ small few)
+  answer-bytes = rw (w .says) (packed-bytes _ _ _ small few short)
 
-  pub answer-top : r < 4294967296
-  unfolding answer
-  answer-top = let n = step-orderly t b e (length o) .fits in rw (w .says) (packed-top _ _ _ small few (omega arith))
+  pub room-front : take (bytesIn r) o′ ≡ frames (stepOf (length o) t b e .actions)
+  room-front = rw (answer-bytes, w .room) (over-front o (frames (stepOf (length o) t b e .actions)))
 
-  pub room-front : take (r / 65536) o′ ≡ frames (stepOf (length o) t b e .actions)
-  room-front = rw (answer-written, w .room) (over-front o (frames (stepOf (length o) t b e .actions)))
-
-  pub room-past : drop (r / 65536) o′ ≡ drop (r / 65536) o
-  room-past = rw (answer-written, w .room) (over-past o (frames (stepOf (length o) t b e .actions)))
+  pub room-past : drop (bytesIn r) o′ ≡ drop (bytesIn r) o
+  room-past = rw (answer-bytes, w .room) (over-past o (frames (stepOf (length o) t b e .actions)))
 
   pub room-length : length o′ ≡ length o
   room-length =

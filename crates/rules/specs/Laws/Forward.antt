@@ -9,16 +9,16 @@ use mathlib.Core.List.{List, [], append-nil}
 use native.Mathlib.Omega.{arith}
 use lib.ListN.{length, getD, drop}
 use borrow.Author.Tests.{le-ltb, le-leb, eq-eqb, ne-eqb}
-use Rattle.names.specs.Names.{soundBook, suffixOf, isName, under}
-use Rattle.names.specs.Laws.Bools.{and-both}
-use Rattle.names.specs.Laws.Lists.{alike-refl}
-use Rattle.table.specs.Table.{tenant, opens, row, mostOpens, tableBytes, num, view, soundTable, nameOf, tabOf, liveTabs}
-use Rattle.table.specs.Table.{Openable, fresh, opened, waits, marked}
-use Rattle.table.specs.declared.find.Place.the-variants.{At}
-use Rattle.table.specs.declared.mark.Mark.the-variants.{Cookie}
+use Rattle.terms.specs.Names.{soundBook, allOf, suffixOf, isName, under, num}
+use Rattle.terms.specs.Laws.Bools.{and-both}
+use Rattle.terms.specs.Laws.Lists.{alike-refl}
+use Rattle.fields.specs.Table.{tenant, opens, row, mostOpens, tableBytes, view, soundTable, nameOf, tabOf, liveTabs}
+use Rattle.fields.specs.Table.{Openable, fresh, opened, waits, marked}
+use Rattle.fields.specs.declared.place.Place.the-variants.{At}
+use Rattle.fields.specs.declared.mark.Mark.the-variants.{Cookie}
 use Rattle.rules.specs.Rule.Frame.{be, framed, head, bytes}
 use Rattle.rules.specs.Rule.Event.{part, sized, rest, fromSeat, fromTab, sentBy, readingOf}
-use Rattle.rules.specs.Rule.Desk.{desk, changed, reply}
+use Rattle.rules.specs.Rule.Desk.{desk, changed, reply, suffixAt}
 use Rattle.rules.specs.Rule.Allow.{cookieDomain}
 use Rattle.rules.specs.Rule.Seat.{acceptable, openRule, seatRule}
 use Rattle.rules.specs.Rule.Tab.{ask, retrieveRule, tabRule}
@@ -31,8 +31,8 @@ use Rattle.rules.specs.declared.event.TabMessage.the-variants.{Retrieve}
 use Rattle.rules.specs.declared.event.Reading.the-variants.{Whole}
 use Rattle.rules.specs.Laws.Head.{Front, frame-front}
 use Rattle.rules.specs.Laws.Tab.{domain-length}
-use Rattle.rules.specs.Laws.Open.{acceptable-suffix}
-use Rattle.rules.specs.Laws.Happens.{TabAt, did, suffixAt}
+use Rattle.rules.specs.Laws.Open.{acceptable-suffix, acceptable-book}
+use Rattle.rules.specs.Laws.Happens.{TabAt, did}
 use Rattle.rules.specs.Laws.Happened.{payload}
 
 -- ---- start
@@ -44,7 +44,7 @@ start-does t b h e = rw (eq-eqb (length t) tableBytes h, e)
 -- ---- tests
 
 -- a name that is all of its own suffix is acceptable
-pub acceptable-of : (b x : List ℕ) → suffixOf x b ≡ record { why = 0; part = x; place = 0 } → acceptable b x ≡ true
+pub acceptable-of : (b x : List ℕ) → suffixOf x b ≡ allOf x → acceptable b x ≡ true
 unfolding acceptable
 acceptable-of b x e = rw (e, alike-refl x)
 
@@ -131,7 +131,7 @@ open-frame room t b s x enough w a =
     let more = w .more in
     let r = frame-reads 1 s 3 x (omega arith) (omega arith) (omega arith) (omega arith) in
     let is : part e (rest e 0) ≡ x = payload e ∙ r .payload= in
-    open-does room t b e enough (w .sound) s (rest e 0) (open-reads e s x r) (w .is-let) (suffix .sound) (ap (acceptable b) is ∙ a)
+    open-does room t b e enough (w .sound) s (rest e 0) (open-reads e s x r) (w .is-let) (acceptable-book b x a) (ap (acceptable b) is ∙ a)
     (λ z. omega arith) (λ z. omega arith)
     ∙ ap (opened t s) is
 

@@ -8,13 +8,14 @@ use native.Mathlib.Omega.{arith}
 use lib.ListN.{drop}
 use lib.Dec.{eqb, ltb}
 use borrow.Author.Tests.{eqb-true, eqb-false, not-true, not-false}
-use Rattle.names.specs.Laws.Lists.{take-rest}
-use Rattle.table.specs.Table.{tenant, num, view, tabId, soundTable, tabOf, processOf}
-use Rattle.table.specs.Laws.Tab.{tab-of, id-whole}
-use Rattle.table.specs.declared.find.Place.{Place}
-use Rattle.table.specs.declared.find.Place.the-variants.{Nowhere, At}
+use Rattle.terms.specs.Laws.Lists.{take-rest}
+use Rattle.fields.specs.Table.{tenant, view, tabId, soundTable, tabOf, processOf}
+use Rattle.terms.specs.Names.{num}
+use Rattle.fields.specs.Laws.Tab.{tab-of, id-whole}
+use Rattle.fields.specs.declared.place.Place.{Place}
+use Rattle.fields.specs.declared.place.Place.the-variants.{Nowhere, At}
 use Rattle.rules.specs.Rule.Event.{part, rest, readingOf}
-use Rattle.rules.specs.Rule.Desk.{Desk, deskAt, Reply}
+use Rattle.rules.specs.Rule.Desk.{Desk, deskAt, Reply, idAt}
 use Rattle.rules.specs.Rule.Seat.{openRule, seatRule}
 use Rattle.rules.specs.Rule.Tab.{tabRule}
 use Rattle.rules.specs.Rule.Step.{refused, made, atTab, eventRule, readRule, roomNeeded, stepOf}
@@ -24,7 +25,7 @@ use Rattle.rules.specs.declared.event.Reading.the-variants.{Whole, Malfo
 use Rattle.rules.specs.Laws.Cases.{either}
 use Rattle.rules.specs.Laws.Line.{Head, Line, key, mouse, opening, display, socket, url, store, retrieve, result}
 use Rattle.rules.specs.Laws.Line.{document, read-line}
-use Rattle.rules.specs.Laws.Happens.{From, TabAt, idAt, Happens, nothing, points}
+use Rattle.rules.specs.Laws.Happens.{From, TabAt, Happens, nothing, points}
 use Rattle.rules.specs.Laws.Acts.{HappensAt, tab-at, open-happens, pass-happens, key-happens, display-happens}
 use Rattle.rules.specs.Laws.Acts.{socket-happens, url-happens, store-happens, retrieve-happens, result-happens}
 use Rattle.rules.specs.Laws.Acts.{document-happens}

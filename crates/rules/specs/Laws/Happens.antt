@@ -6,19 +6,19 @@ use mathlib.Core.Bool.{true, false}
 use mathlib.Core.Logic.{_≢_}
 use mathlib.Core.List.{List, [], _∷_}
 use lib.ListN.{getD, drop}
-use Rattle.names.specs.Names.{folded, soundBook}
-use Rattle.table.specs.Table.{selected, serial, row, number, tabs, last, num, view, tabId, live, ownerAt, nameOf, tabOf}
-use Rattle.table.specs.Table.{processWith, Openable, Closable, opened, picked, closed, waits, marked, unmarked, TabLive}
-use Rattle.table.specs.Table.{soundTable}
-use Rattle.table.specs.declared.find.Place.the-variants.{At}
-use Rattle.table.specs.declared.mark.Mark.the-variants.{Cookie, Document}
+use Rattle.terms.specs.Names.{folded, soundBook, num}
+use Rattle.fields.specs.Table.{selected, serial, row, number, tabs, last, view, tabId, live, ownerAt, nameOf, tabOf}
+use Rattle.fields.specs.Table.{processWith, Openable, Closable, opened, picked, closed, waits, marked, unmarked, TabLive}
+use Rattle.fields.specs.Table.{soundTable}
+use Rattle.fields.specs.declared.place.Place.the-variants.{At}
+use Rattle.fields.specs.declared.mark.Mark.the-variants.{Cookie, Document}
 use Rattle.rules.specs.Rule.Frame.{Frame}
 use Rattle.rules.specs.Rule.Action.{bar, paint, go, render, key, mouse, error, document, cookie, set, get, fetch}
 use Rattle.rules.specs.Rule.Action.{startTab, stopTab, startProcess, stopProcess, openSocket}
 use Rattle.rules.specs.Rule.Allow.{cookieDomain, socketAllowed, isUrl}
 use Rattle.rules.specs.Rule.Seat.{acceptable}
 use Rattle.rules.specs.Rule.Step.{Outcome, refused}
-use Rattle.rules.specs.Held.{newId}
+use Rattle.rules.specs.Rule.Desk.{processAt, suffixAt, newId}
 use Rattle.rules.specs.Laws.Line.{Head}
 
 -- the event is from a party's id, with a tag
@@ -45,16 +45,6 @@ pub record Opens (t b e : List ℕ) (s : ℕ) : Type 0 where
 -- a step that is done
 abbrev pub did : List Frame → List ℕ → Outcome
 did l u = record { number = 0; actions = l; table = u }
-
--- of the tab in slot k of seat s: its id, its process's number and its process's suffix
-abbrev pub idAt : List ℕ → ℕ → ℕ → ℕ
-idAt t s k = tabId s (view t (serial s k))
-
-abbrev pub processAt : List ℕ → ℕ → ℕ → ℕ
-processAt t s k = view t (number (view t (row s k)))
-
-abbrev pub suffixAt : List ℕ → ℕ → ℕ → List ℕ
-suffixAt t s k = nameOf (view t) (view t (row s k))
 
 pub data Happens (t b e : List ℕ) : Outcome → Type 0 where
   -- nothing to do, or refused; never as unsound

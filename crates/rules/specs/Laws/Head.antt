@@ -6,8 +6,8 @@ use mathlib.Core.List.{List, _∷_, _++_}
 use native.Mathlib.Omega.{arith}
 use lib.ListN.{length, getD, take, drop, length-append}
 use lib.Seq.{take-append-seam, drop-append-seam, drop-drop}
-use Rattle.table.specs.Table.{num}
-use Rattle.table.specs.Laws.Num.{num-zero, num-suc}
+use Rattle.terms.specs.Names.{num}
+use Rattle.terms.specs.Laws.Num.{num-zero, num-suc}
 use Rattle.rules.specs.Rule.Frame.{be, Frame, head, bytes, frames}
 use Rattle.rules.specs.Laws.Frame.{length-bytes}
 

@@ -8,8 +8,8 @@ use native.Mathlib.Omega.{arith}
 use lib.ListN.{length, getD}
 use lib.Dec.{eqb, leb}
 use borrow.Author.Tests.{leb-true, eqb-true}
-use Rattle.names.specs.Laws.Bools.{and-left, and-right}
-use Rattle.table.specs.Table.{num}
+use Rattle.terms.specs.Laws.Bools.{and-left, and-right}
+use Rattle.terms.specs.Names.{num}
 use Rattle.rules.specs.Rule.Event.{sized, rest, field, when, fromSeat, fromTab, delivered, sentBy, readingOf}
 use Rattle.rules.specs.declared.event.Event.{Event}
 use Rattle.rules.specs.declared.event.Event.the-variants.{Seat, Tab, Process, Network}

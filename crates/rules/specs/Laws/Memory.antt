@@ -6,8 +6,8 @@ use native.Mathlib.Nat.{add-zero}
 use native.Mathlib.Omega.{arith}
 use lib.ListN.{length, getD, take, drop, length-drop, take-append-drop}
 use lib.Seq.{take-suc, take-all, drop-drop, getD-drop}
-use Rattle.table.specs.Table.{num}
-use Rattle.table.specs.Laws.Num.{num-zero, num-suc}
+use Rattle.terms.specs.Names.{num}
+use Rattle.terms.specs.Laws.Num.{num-zero, num-suc}
 use Rattle.rules.specs.Rule.Frame.{be, framed, head, bytes}
 use Rattle.rules.specs.Rule.Event.{part, rest, field, delivered, seatFrame, tabFrame, eventFrame, readingOf}
 use Rattle.rules.specs.declared.event.Event.{Event}

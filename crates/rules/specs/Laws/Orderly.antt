@@ -7,7 +7,7 @@ use mathlib.Core.List.{List, []}
 use Prim.Native.Nat.{ℕ, _≤_}
 use native.Mathlib.Omega.{arith}
 use lib.ListN.{length}
-use Rattle.table.specs.Table.{soundTable}
+use Rattle.fields.specs.Table.{soundTable}
 use Rattle.rules.specs.Rule.Frame.{Frame, frames}
 use Rattle.rules.specs.Rule.Desk.{Change, stay, changed, Reply, refuse, reply}
 use Rattle.rules.specs.Rule.Step.{Outcome, refused, made}

@@ -8,10 +8,11 @@ use native.Mathlib.Omega.{arith}
 use lib.ListN.{length, getD}
 use lib.Dec.{eqb, ltb}
 use borrow.Author.Tests.{eqb-false}
-use Rattle.table.specs.Table.{tenant, num, view, soundTable, live, tabOf, processOf}
-use Rattle.table.specs.Laws.Tab.{tab-of}
-use Rattle.table.specs.declared.find.Place.{Place}
-use Rattle.table.specs.declared.find.Place.the-variants.{Nowhere, At}
+use Rattle.fields.specs.Table.{tenant, view, soundTable, live, tabOf, processOf}
+use Rattle.terms.specs.Names.{num}
+use Rattle.fields.specs.Laws.Tab.{tab-of}
+use Rattle.fields.specs.declared.place.Place.{Place}
+use Rattle.fields.specs.declared.place.Place.the-variants.{Nowhere, At}
 use Rattle.rules.specs.Rule.Event.{part, rest, field, delivered, readingOf}
 use Rattle.rules.specs.Rule.Desk.{Desk, deskAt, Reply}
 use Rattle.rules.specs.Rule.Seat.{seatRule}

@@ -4,7 +4,7 @@ use mathlib.Core.List.{List}
 use Prim.Native.Nat.{ℕ, _+_, _-_, _≤_, _<_}
 use native.Mathlib.Omega.{arith}
 use lib.ListN.{length, getD}
-use Rattle.table.specs.Laws.Num.{num-lt}
+use Rattle.terms.specs.Laws.Num.{num-lt}
 use Rattle.rules.specs.Rule.Event.{rest, field, delivered, readingOf}
 use Rattle.rules.specs.Held.{PartIn, StoreIn, EventIn}
 use Rattle.rules.specs.declared.event.Event.{Event}

@@ -7,6 +7,7 @@ use lib.ListN.{getD}
 use borrow.Author.Tests.{le-ltb}
 use Rattle.rules.specs.Rule.Event.{readingOf}
 use Rattle.rules.specs.Rule.Seat.{seatRule}
+use Rattle.rules.specs.Rule.Tab.{tabRule}
 use Rattle.rules.specs.Rule.Step.{eventRule, readRule, roomNeeded, stepOf}
 use Rattle.rules.specs.declared.event.Event.{Event}
 use Rattle.rules.specs.declared.event.Reading.{Reading}
@@ -21,7 +22,7 @@ any-room n m t b e h k = rw (le-ltb n roomNeeded h, le-ltb m roomNeeded k)
 
 module _ (t b b′ e : List ℕ) (other : (getD e 0 0 ≢ 1) ⊎ (getD e 5 0 ≢ 3)) where
   line-any-book : {v : Event} → Line e v → eventRule t b e v ≡ eventRule t b′ e v
-  unfolding eventRule seatRule
+  unfolding eventRule seatRule tabRule
   line-any-book (key h n) = refl
   line-any-book (mouse h n) = refl
   line-any-book (opening h) = absurd (⊎-elim (λ f. f (h .party=)) (λ f. f (h .tag=)) other)

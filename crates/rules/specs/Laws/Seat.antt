@@ -7,14 +7,14 @@ use native.Mathlib.Omega.{arith}
 use lib.ListN.{length, length-append}
 use lib.Dec.{eqb}
 use borrow.Author.Tests.{eqb-false, not-false}
-use Rattle.names.specs.Base.{within}
-use Rattle.names.specs.Names.{folded, soundBook}
-use Rattle.names.specs.Laws.Bools.{cases}
-use Rattle.names.specs.Laws.Fold.{length-folded}
-use Rattle.table.specs.Table.{tenant, mostOpens, view, live, row}
-use Rattle.table.specs.Laws.Asked.{let-seat}
-use Rattle.table.specs.Laws.Find.{name-short}
-use Rattle.table.specs.Promises.{open-sound, pick-sound, close-sound}
+use Rattle.terms.specs.Base.{within}
+use Rattle.terms.specs.Names.{folded, soundBook}
+use Rattle.terms.specs.Laws.Bools.{cases}
+use Rattle.terms.specs.Laws.Fold.{length-folded}
+use Rattle.fields.specs.Table.{tenant, mostOpens, view, live, row}
+use Rattle.fields.specs.Laws.Asked.{let-seat}
+use Rattle.fields.specs.Laws.Find.{name-short}
+use Rattle.fields.specs.Promises.{open-sound, pick-sound, close-sound}
 use Rattle.rules.specs.Rule.Frame.{Frame, be}
 use Rattle.rules.specs.Rule.Action.{bar, go, key, startTab}
 use Rattle.rules.specs.Rule.Desk.{Desk, desk, deskAt, changed, openTab, selectTab, closeTab}
@@ -46,7 +46,7 @@ open-modest d i x h =
 pub close-modest : (d : Desk) (k : ℕ) → Modest 4 4106 (closeActions d k)
 unfolding closeActions only
 close-modest d k =
-    cases (d .last k) (λ e. rw e (record { few = omega arith; short = omega arith }))
+    cases (d .lastTab k) (λ e. rw e (record { few = omega arith; short = omega arith }))
     (λ e. rw e (record { few = omega arith; short = omega arith }))
 
 -- ---- rules
@@ -58,8 +58,8 @@ module _ (t : List ℕ) (s : ℕ) (l : view t (tenant s) ≢ 0) where
       let d = deskAt t s in
       either (OrderlyAt t s) (not (soundBook b)) _ _ (λ _. no-reply t s 6 (omega arith))
       (λ _. either (OrderlyAt t s) (not (acceptable b x)) _ _ (λ _. no-reply t s 7 (omega arith))
-      (λ a. either (OrderlyAt t s) (eqb (d .tabs) 10) _ _ (λ _. no-reply t s 8 (omega arith))
-      (λ n. either (OrderlyAt t s) (eqb (d .opens) mostOpens) _ _ (λ _. no-reply t s 9 (omega arith))
+      (λ a. either (OrderlyAt t s) (eqb (d .tabCount) 10) _ _ (λ _. no-reply t s 8 (omega arith))
+      (λ n. either (OrderlyAt t s) (d .spent) _ _ (λ _. no-reply t s 9 (omega arith))
       (λ m.
       let ok = not-false (acceptable b x) a in
       let q = acceptable-suffix b x ok .size .high in

@@ -7,14 +7,14 @@ use native.Mathlib.Omega.{arith}
 use lib.ListN.{length, length-append}
 use lib.Dec.{eqb}
 use borrow.Author.Tests.{not-true}
-use Rattle.names.specs.Names.{isName, under}
-use Rattle.names.specs.Laws.Bools.{and-left, and-right}
-use Rattle.names.specs.Laws.Fold.{length-folded}
-use Rattle.names.specs.Laws.Name.{name-length}
-use Rattle.table.specs.declared.mark.Mark.{Mark}
-use Rattle.table.specs.declared.mark.Mark.the-variants.{Cookie, Document}
-use Rattle.table.specs.Table.{view, soundTable, live, waits}
-use Rattle.table.specs.Promises.{mark-sound, unmark-sound}
+use Rattle.terms.specs.Names.{isName, under}
+use Rattle.terms.specs.Laws.Bools.{and-left, and-right}
+use Rattle.terms.specs.Laws.Fold.{length-folded}
+use Rattle.terms.specs.Laws.Name.{name-length}
+use Rattle.fields.specs.declared.mark.Mark.{Mark}
+use Rattle.fields.specs.declared.mark.Mark.the-variants.{Cookie, Document}
+use Rattle.fields.specs.Table.{view, soundTable, live, waits}
+use Rattle.fields.specs.Promises.{mark-sound, unmark-sound}
 use Rattle.rules.specs.Rule.Frame.{Frame, frames}
 use Rattle.rules.specs.Rule.Action.{set, get, fetch, openSocket}
 use Rattle.rules.specs.Rule.Desk.{Desk, desk, deskAt, refuse, reply, changed, Change, stay, setMark, clearMark}
@@ -52,7 +52,7 @@ domain-length domain suffix e = name-length domain (and-left (isName domain) (un
 -- ---- the tab in slot k of seat s is live
 
 module _ (t : List ℕ) (s k : ℕ) (there : live (view t) s k ≡ true) where
-  -- a mark that is not there can be set, and any can be cleared
+  -- a mark that is not there can be set, and one that is there can be cleared
   set-kept : (m : Mark) (a : Bool) → a && not (waits (view t) s k m) ≡ true → soundTable t ≡ true
       → soundTable (changed t s (setMark k m)) ≡ true
   unfolding changed
@@ -60,9 +60,10 @@ module _ (t : List ℕ) (s k : ℕ) (there : live (view t) s k ≡ true) where
       let w = waits (view t) s k m in
       mark-sound t s k m (record { sound = e; there = there }) (not-true w (and-right a (not w) h))
 
-  clear-kept : (m : Mark) → soundTable t ≡ true → soundTable (changed t s (clearMark k m)) ≡ true
+  clear-kept : (m : Mark) → waits (view t) s k m ≡ true → soundTable t ≡ true
+      → soundTable (changed t s (clearMark k m)) ≡ true
   unfolding changed
-  clear-kept m e = unmark-sound t s k m (record { sound = e; there = there })
+  clear-kept m h e = unmark-sound t s k m (record { sound = e; there = there }) h
 
   -- ---- from the tab
 
@@ -116,16 +117,20 @@ module _ (t : List ℕ) (s k : ℕ) (there : live (view t) s k ≡ true) where
 
   -- ---- to it
 
-  passed-orderly : (allowed : Bool) (a : Frame) (m : Mark) → length (a .payload) ≤ 4096
+  passed-orderly : (allowed : Bool) (a : Frame) (m : Mark) → (allowed ≡ true → waits (view t) s k m ≡ true) → length (a .payload) ≤ 4096
       → OrderlyAt t s (cond allowed (reply (a ∷ []) (clearMark k m)) (refuse 10))
-  passed-orderly allowed a m n =
-      either (OrderlyAt t s) allowed _ _ (λ _. ok-reply t s _ (clearMark k m) (omega arith) (omega arith) (clear-kept m))
+  passed-orderly allowed a m w n =
+      either (OrderlyAt t s) allowed _ _
+      (λ h. ok-reply t s _ (clearMark k m) (omega arith) (omega arith) (clear-kept m (w h)))
       (λ _. no-reply t s 10 (omega arith))
 
   pub result-orderly : (n : ℕ) (x : List ℕ) → length x ≤ 4096 → OrderlyAt t s (resultRule (deskAt t s) n k x)
-  unfolding resultRule
-  result-orderly n x h = let d = deskAt t s in passed-orderly (eqb (d .process k) n && d .waits k Cookie) _ _ h
+  unfolding resultRule desk
+  result-orderly n x h =
+      let from = eqb (deskAt t s .process k) n in
+      let waiting = waits (view t) s k Cookie in
+      passed-orderly (from && waiting) _ Cookie (and-right from waiting) h
 
   pub document-orderly : (x : List ℕ) → length x ≤ 4096 → OrderlyAt t s (documentRule (deskAt t s) k x)
-  unfolding documentRule
-  document-orderly x h = passed-orderly (deskAt t s .waits k Document) _ _ h
+  unfolding documentRule desk
+  document-orderly x h = passed-orderly (waits (view t) s k Document) _ Document (λ e. e) h

@@ -8,21 +8,22 @@ use native.Mathlib.Omega.{arith}
 use lib.ListN.{length}
 use lib.Dec.{ltb}
 use borrow.Author.Tests.{ltb-true}
-use Rattle.names.specs.Laws.Bools.{Range, cases}
-use Rattle.table.specs.Table.{serial, row, last, mostOpens, view, tabId, soundTable}
-use Rattle.table.specs.Promises.{number-left}
-use Rattle.table.specs.Laws.Asked.{live-row, live-serial}
-use Rattle.table.specs.Laws.Can.{number-small, numbers-enough}
-use Rattle.table.specs.Laws.Tab.{id-is}
-use Rattle.table.specs.Laws.Table.{table-facts}
-use Rattle.table.specs.Laws.There.{live-there}
+use Rattle.terms.specs.Laws.Bools.{cases}
+use Rattle.terms.specs.Base.{Range}
+use Rattle.fields.specs.Table.{serial, row, last, mostOpens, view, tabId, soundTable}
+use Rattle.fields.specs.Promises.{number-left}
+use Rattle.fields.specs.Laws.Asked.{live-row, live-serial}
+use Rattle.fields.specs.Laws.Can.{number-small, numbers-enough}
+use Rattle.fields.specs.Laws.Tab.{id-is}
+use Rattle.fields.specs.Laws.Table.{table-facts}
+use Rattle.fields.specs.Laws.There.{live-there}
 use Rattle.rules.specs.Rule.Frame.{Frame, framed, frames}
 use Rattle.rules.specs.Rule.Step.{Outcome, refused, roomNeeded, stepOf}
-use Rattle.rules.specs.Held.{newId}
+use Rattle.rules.specs.Rule.Desk.{newId, processAt}
 use Rattle.rules.specs.Laws.Cases.{either}
 use Rattle.rules.specs.Laws.Frame.{length-frames}
 use Rattle.rules.specs.Laws.Outcome.{step-orderly}
-use Rattle.rules.specs.Laws.Happens.{TabAt, Opens, processAt, Happens, nothing, joins, renews, selects, leaves, ends}
+use Rattle.rules.specs.Laws.Happens.{TabAt, Opens, Happens, nothing, joins, renews, selects, leaves, ends}
 use Rattle.rules.specs.Laws.Happens.{types, points, paints, sockets, fetches, stores, gets, denies, results, documents}
 use Rattle.rules.specs.Laws.Happens.{at-live, refused-is}
 use Rattle.rules.specs.Laws.Happened.{step-happens}

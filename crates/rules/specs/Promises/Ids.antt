@@ -4,11 +4,11 @@ use mathlib.Core.List.{List}
 use Rattle.rules.specs.Rule.Call.{Call}
 use Rattle.rules.specs.Rule.History.{History}
 use Rattle.rules.specs.Rule.Ids.{TabOnce, ProcessOnce, TabsStand, ProcessesStand, StopsOnce, Addresses, Ids, CookieDue}
-use Rattle.rules.specs.Rule.Ids.{DocumentDue, Documents, Answered}
+use Rattle.rules.specs.Rule.Ids.{DocumentDue, Documents, Due}
 use Rattle.rules.specs.Time.Stand.{history-tabs, history-processes}
 use Rattle.rules.specs.Time.Ids as by-id
 use Rattle.rules.specs.Time.Waiting.{history-cookie, history-document}
-use Rattle.rules.specs.Time.Answered.{history-documents}
+use Rattle.rules.specs.Time.Documents.{history-documents}
 
 module _ {book : List ℕ} {cs : List Call} {t : List ℕ} (h : History book cs t) where
   -- ---- ids
@@ -67,5 +67,5 @@ module _ {book : List ℕ} {cs : List Call} {t : List ℕ} (h : History book cs 
   pub documents-asked : Documents cs
   documents-asked = history-documents h
 
-  pub answered : Answered cs t
+  pub answered : Due cs t
   answered = record { cookie = cookie-due; document = document-due; documents = documents-asked }

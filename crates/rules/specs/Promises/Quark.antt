@@ -6,7 +6,7 @@ use mathlib.Core.List.{List}
 use Rattle.rules.specs.Rule.Call.{Call, step, Past, partyOf, tagOf}
 use Rattle.rules.specs.Rule.History.{History}
 use Rattle.rules.specs.Rule.Quark.{Bar, Sockets, Cookies, Display, State, Keys, Quark, Alike}
-use Rattle.rules.specs.Rules.{Frame, roomNeeded}
+use Rattle.rules.specs.Sheet.{Frame, roomNeeded}
 use Rattle.rules.specs.Time.Bar.{history-bar}
 use Rattle.rules.specs.Time.Display.{history-sockets, history-display}
 use Rattle.rules.specs.Time.Cookies.{history-cookies}

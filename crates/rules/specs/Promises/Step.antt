@@ -1,27 +1,28 @@
 -- What is promised of one call, each promise with a sentence above it; the proofs are a line into Laws. A step is
 -- `stepOf room table book event`, and what the contract of `step` says of it is `Stepped`; a start is `startOf table book`, and
 -- what the contract of `start` says of it is `Started`. Assumes nothing.
-use Prim.Native.Nat.{ℕ, _+_, _/_, _%_, _≤_, _<_}
+use Prim.Native.Nat.{ℕ, _+_, _≤_, _<_}
 use mathlib.Core.Path.{_≡_, _∙_}
 use mathlib.Core.Bool.{true}
 use mathlib.Core.Logic.{_≢_, _⊎_}
 use mathlib.Core.List.{List, []}
 use native.Mathlib.Omega.{arith}
 use lib.ListN.{length, take, drop}
-use Rattle.names.specs.Laws.Bools.{Range}
-use Rattle.table.specs.Table.{soundTable}
-use Rattle.rules.specs.Rules.{bytes, frames, eventFrame, readingOf, Outcome, stepOf, startOf, packed, Stepped, Started}
-use Rattle.rules.specs.Rules.{Desk, cookieDomain, storeRule}
+use Rattle.terms.specs.Base.{Range}
+use Rattle.fields.specs.Table.{soundTable}
+use Rattle.rules.specs.Sheet.{bytes, frames, eventFrame, readingOf, Outcome, stepOf, startOf, packed, Stepped, Started}
+use Rattle.rules.specs.Sheet.{numberIn, actionsIn, bytesIn}
+use Rattle.rules.specs.Sheet.{Desk, cookieDomain, storeRule}
 use Rattle.rules.specs.declared.event.Event.{Event}
 use Rattle.rules.specs.declared.event.Reading.the-variants.{Whole}
 use Rattle.rules.specs.Laws.Read.{Bytes}
 use Rattle.rules.specs.Laws.Memory as memory
 use Rattle.rules.specs.Laws.Tab.{store-largest}
 use Rattle.rules.specs.Laws.Outcome.{step-orderly}
-use Rattle.rules.specs.Laws.Answer.{packed-number, packed-actions, packed-written, packed-top, frames-fit, answer-number}
-use Rattle.rules.specs.Laws.Answer.{answer-actions, answer-written, answer-top, room-front, room-past, room-length}
+use Rattle.rules.specs.Laws.Answer.{packed-number, packed-actions, packed-bytes, frames-fit, answer-number}
+use Rattle.rules.specs.Laws.Answer.{answer-actions, answer-bytes, room-front, room-past, room-length}
 use Rattle.rules.specs.Laws.Answer.{step-nothing}
-use Rattle.rules.specs.Laws.Start.{start-starts, start-alone}
+use Rattle.rules.specs.Laws.Start.{start-starts, start-alone, start-reads}
 use Rattle.rules.specs.Laws.Widths.{AllNarrow, step-widths}
 
 -- ---- determined
@@ -81,6 +82,10 @@ start-refused t b w h = w .table ∙ start-starts t b .refusal h
 pub start-answer : (t b : List ℕ) {t′ : List ℕ} {r : ℕ} → Started (startOf t b) t′ r → r ≡ startOf t b .number
 start-answer t b w = start-alone t b w
 
+-- That number is read out of it by name as well.
+pub start-read : (t b : List ℕ) {t′ : List ℕ} {r : ℕ} → Started (startOf t b) t′ r → numberIn r ≡ startOf t b .number
+start-read t b w = start-reads t b w
+
 -- ---- what fits
 
 -- The number of every step is at most 10,
@@ -111,40 +116,36 @@ largest-store d k domain x e h = store-largest d k domain x e h
 -- ---- the answer
 
 pub record Unpacked (n a w r : ℕ) : Type 0 where
-  pub number= : r % 256 ≡ n
-  pub actions= : r / 256 % 256 ≡ a
-  pub written= : r / 65536 ≡ w
-  pub top : r < 4294967296
+  pub number= : numberIn r ≡ n
+  pub actions= : actionsIn r ≡ a
+  pub bytes= : bytesIn r ≡ w
 
--- Number, count of actions and count of bytes can be read out of the packed answer, and nothing stands above them.
+-- Number, count of actions and count of bytes can be read out of the packed answer.
 pub read-back : (n a w : ℕ) → n < 256 → a < 256 → w < 65536 → Unpacked n a w (packed n a w)
 read-back n a w h k l =
     record {
-      number= = packed-number n a w h k;
-      actions= = packed-actions n a w h k;
-      written= = packed-written n a w h k;
-      top = packed-top n a w h k l;
+      number= = packed-number n a w h k l;
+      actions= = packed-actions n a w h k l;
+      bytes= = packed-bytes n a w h k l;
     }
 
-pub record Answered (x : Outcome) (o o′ : List ℕ) (r : ℕ) : Type 0 where
-  pub number= : r % 256 ≡ x .number
-  pub actions= : r / 256 % 256 ≡ length (x .actions)
-  pub written= : r / 65536 ≡ length (frames (x .actions))
-  pub top : r < 4294967296
-  pub front : take (r / 65536) o′ ≡ frames (x .actions)
-  pub past : drop (r / 65536) o′ ≡ drop (r / 65536) o
+pub record ReadOut (x : Outcome) (o o′ : List ℕ) (r : ℕ) : Type 0 where
+  pub number= : numberIn r ≡ x .number
+  pub actions= : actionsIn r ≡ length (x .actions)
+  pub bytes= : bytesIn r ≡ length (frames (x .actions))
+  pub front : take (bytesIn r) o′ ≡ frames (x .actions)
+  pub past : drop (bytesIn r) o′ ≡ drop (bytesIn r) o
   pub same : length o′ ≡ length o
 
 -- In a step's answer they are the outcome's: the front of the room, as long as the answer says, holds the frames of as many
 -- actions as it says; what is past them is as it was, and the room as long.
 pub step-answer : (t b e : List ℕ) {o t′ o′ : List ℕ} {r : ℕ} → Stepped (stepOf (length o) t b e) o t′ o′ r
-    → Answered (stepOf (length o) t b e) o o′ r
+    → ReadOut (stepOf (length o) t b e) o o′ r
 step-answer t b e w =
     record {
       number= = answer-number t b e w;
       actions= = answer-actions t b e w;
-      written= = answer-written t b e w;
-      top = answer-top t b e w;
+      bytes= = answer-bytes t b e w;
       front = room-front t b e w;
       past = room-past t b e w;
       same = room-length t b e w;

@@ -3,7 +3,7 @@
 use Prim.Native.Nat.{ℕ}
 use mathlib.Core.List.{List, [], _++_}
 use lib.ListN.{length}
-use Rattle.names.specs.Names.{folded}
+use Rattle.terms.specs.Names.{folded}
 use Rattle.rules.specs.Rule.Frame.{be, Frame, framed}
 
 -- ---- to 1, a seat's screen

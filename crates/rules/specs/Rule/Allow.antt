@@ -5,9 +5,9 @@ use mathlib.Core.Bool.{Bool, not, _&&_, _||_}
 use mathlib.Core.List.{List}
 use lib.ListN.{length, take}
 use lib.Dec.{eqb, ltb}
-use Rattle.names.specs.Base.{within, every, alike}
-use Rattle.names.specs.Names.{isName, under}
-use Rattle.names.specs.Text as Text
+use Rattle.terms.specs.Base.{within, every, alike}
+use Rattle.terms.specs.Names.{isName, under}
+use Rattle.terms.specs.Text as Text
 
 -- "Store, retrieve: the domain must be a name under the suffix"
 unfoldable pub cookieDomain : List ℕ → List ℕ → Bool

@@ -5,9 +5,9 @@ use mathlib.Core.Bool.{Bool, false, _&&_, _||_, cond}
 use mathlib.Core.List.{List, [], _∷_}
 use lib.ListN.{getD, drop}
 use lib.Dec.{eqb}
-use Rattle.table.specs.Base.{one}
-use Rattle.table.specs.Table.{num}
-use Rattle.rules.specs.Rules.{Frame}
+use Rattle.fields.specs.Base.{one}
+use Rattle.terms.specs.Names.{num}
+use Rattle.rules.specs.Sheet.{Frame}
 
 -- ---- a call
 

@@ -5,13 +5,12 @@ use mathlib.Core.Path.{_≡_}
 use mathlib.Core.Bool.{true}
 use mathlib.Core.Logic.{_≢_}
 use mathlib.Core.List.{List, _++_}
-use Rattle.names.specs.Names.{folded, isSeparate, orders, lettingOf, separateOf}
-use Rattle.names.specs.Laws.Bools.{Range}
-use Rattle.names.specs.Laws.Order.{ownerBy}
-use Rattle.table.specs.Table.{row, owner, tabs, view, seatOfId, live, used, nameOf, pointing, freeProcess, liveTabs}
+use Rattle.terms.specs.Names.{folded, isSeparate, orders, lettingOf, optionsOf, ownerBy}
+use Rattle.terms.specs.Base.{Range}
+use Rattle.fields.specs.Table.{row, owner, tabs, view, seatOfId, live, used, nameOf, pointing, freeProcess, liveTabs}
 use Rattle.rules.specs.Rule.Call.{Call, event, actions, Past, partyOf, idOf, sends, latest, typed, pending}
-use Rattle.rules.specs.Rules.{be, stepOf, startOf}
-use Rattle.rules.specs.Laws.Happens.{idAt}
+use Rattle.rules.specs.Sheet.{be, stepOf, startOf}
+use Rattle.rules.specs.Rule.Desk.{idAt}
 
 -- Each live tab hangs on exactly one live cookie process (`Apart` has the "one"),
 abbrev pub Hangs : List ℕ → Type 0
@@ -75,7 +74,7 @@ Ways book cs = (c : Call) (earlier : List Call) → Past c earlier cs → Way bo
 -- And the freight forwarder's case: desks that differ, one of which is separate, are never on one process.
 abbrev pub Desks : List ℕ → List ℕ → Type 0
 Desks book t =
-    (s r k j : ℕ) → isSeparate (separateOf (lettingOf s (orders book))) ≡ true → r ≢ s → live (view t) s k ≡ true
+    (s r k j : ℕ) → isSeparate (optionsOf (lettingOf s (orders book))) ≡ true → r ≢ s → live (view t) s k ≡ true
     → live (view t) r j ≡ true → view t (row s k) ≢ view t (row r j)
 
 -- All of it.

@@ -4,10 +4,26 @@ use Prim.Native.Nat.{ℕ, _+_}
 use mathlib.Core.Bool.{Bool}
 use mathlib.Core.List.{List, []}
 use lib.Dec.{eqb}
-use Rattle.table.specs.Table.{View, view, selected, opens, serial, row, number, tabs, last, tabId, live, ownerAt, nameOf}
-use Rattle.table.specs.Table.{processWith, liveTabs, waits, opened, picked, closed, marked, unmarked}
-use Rattle.table.specs.declared.mark.Mark.{Mark}
+use Rattle.fields.specs.Table.{View, view, selected, opens, serial, row, number, tabs, last, mostOpens, tabId, live, ownerAt}
+use Rattle.fields.specs.Table.{nameOf, processWith, liveTabs, waits, opened, picked, closed, marked, unmarked}
+use Rattle.fields.specs.declared.mark.Mark.{Mark}
 use Rattle.rules.specs.Rule.Frame.{Frame}
+
+-- ---- tabs of a table
+
+-- of the tab in slot k of seat s: its id, its process's number and its process's suffix
+abbrev pub idAt : List ℕ → ℕ → ℕ → ℕ
+idAt t s k = tabId s (view t (serial s k))
+
+abbrev pub processAt : List ℕ → ℕ → ℕ → ℕ
+processAt t s k = view t (number (view t (row s k)))
+
+abbrev pub suffixAt : List ℕ → ℕ → ℕ → List ℕ
+suffixAt t s k = nameOf (view t) (view t (row s k))
+
+-- "opens + 1 becomes the serial": the id that the next tab of a seat gets
+abbrev pub newId : View → ℕ → ℕ
+newId v s = tabId s (v (opens s) + 1)
 
 -- ---- a desk
 
@@ -16,9 +32,10 @@ pub record Desk : Type 0 where
   pub owner : ℕ
   -- the selected slot, 0 for none
   pub chosen : ℕ
-  pub opens : ℕ
-  -- how many tabs are live
-  pub tabs : ℕ
+  -- how many tabs are live, whether the seat has opened as many as it can, and the id that the next one gets
+  pub tabCount : ℕ
+  pub spent : Bool
+  pub nextId : ℕ
   -- of the tab in a slot: whether it is live, its id, what it waits for, and its process's suffix and number
   pub live : ℕ → Bool
   pub id : ℕ → ℕ
@@ -26,7 +43,7 @@ pub record Desk : Type 0 where
   pub suffix : ℕ → List ℕ
   pub process : ℕ → ℕ
   -- "if it was the last tab" of its process
-  pub last : ℕ → Bool
+  pub lastTab : ℕ → Bool
   -- "If no live process has this owner and suffix"
   pub new : List ℕ → Bool
   -- "last number + 1"
@@ -39,14 +56,15 @@ desk v s =
       seat = s;
       owner = ownerAt v s;
       chosen = v (selected s);
-      opens = v (opens s);
-      tabs = liveTabs v s;
+      tabCount = liveTabs v s;
+      spent = eqb (v (opens s)) mostOpens;
+      nextId = newId v s;
       live = λ k. live v s k;
       id = λ k. tabId s (v (serial s k));
       waits = λ k m. waits v s k m;
       suffix = λ k. nameOf v (v (row s k));
       process = λ k. v (number (v (row s k)));
-      last = λ k. eqb (v (tabs (v (row s k)))) 1;
+      lastTab = λ k. eqb (v (tabs (v (row s k)))) 1;
       new = λ x. eqb (processWith v (ownerAt v s) x) 0;
       next = v last + 1;
     }

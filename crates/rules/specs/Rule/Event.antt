@@ -5,7 +5,7 @@ use mathlib.Core.Bool.{Bool, _&&_, cond}
 use mathlib.Core.List.{List, _++_}
 use lib.ListN.{length, getD, take, drop}
 use lib.Dec.{eqb, leb}
-use Rattle.table.specs.Table.{num}
+use Rattle.terms.specs.Names.{num}
 use Rattle.rules.specs.Rule.Frame.{be, Frame, framed}
 use Rattle.rules.specs.declared.event.Part.{Part}
 use Rattle.rules.specs.declared.event.Delivery.{Delivery}

@@ -6,13 +6,13 @@ use mathlib.Core.Bool.{Bool, true, false, not}
 use mathlib.Core.Logic.{_≢_}
 use mathlib.Core.List.{List}
 use lib.Dec.{eqb}
-use Rattle.table.specs.Base.{one}
-use Rattle.table.specs.Table.{view, live, tabOf, processOf, waits}
-use Rattle.table.specs.declared.find.Place.{Place}
-use Rattle.table.specs.declared.find.Place.the-variants.{Nowhere, At}
-use Rattle.table.specs.declared.mark.Mark.the-variants.{Cookie, Document}
+use Rattle.fields.specs.Base.{one}
+use Rattle.fields.specs.Table.{view, live, tabOf, processOf, waits}
+use Rattle.fields.specs.declared.place.Place.{Place}
+use Rattle.fields.specs.declared.place.Place.the-variants.{Nowhere, At}
+use Rattle.fields.specs.declared.mark.Mark.the-variants.{Cookie, Document}
 use Rattle.rules.specs.Rule.Call.{Call, table, actions, left, Past, sends, times, pending}
-use Rattle.rules.specs.Laws.Happens.{idAt}
+use Rattle.rules.specs.Rule.Desk.{idAt}
 
 -- ---- live
 
@@ -101,7 +101,7 @@ Documents cs =
     (c : Call) (earlier : List Call) → Past c earlier cs → (i : ℕ) → sends 2 i 6 (actions c) ≡ true
     → pending 3 4 6 earlier i ≡ true
 
-pub record Answered (cs : List Call) (t : List ℕ) : Type 0 where
+pub record Due (cs : List Call) (t : List ℕ) : Type 0 where
   pub cookie : CookieDue cs t
   pub document : DocumentDue cs t
   pub documents : Documents cs

@@ -7,13 +7,13 @@ use mathlib.Core.Logic.{_≢_}
 use mathlib.Core.List.{List, [], _++_}
 use lib.ListN.{length, getD}
 use lib.Dec.{eqb}
-use Rattle.names.specs.Base.{within}
-use Rattle.names.specs.Names.{folded, isName, under}
-use Rattle.table.specs.Table.{Field, selected, waiting, view}
+use Rattle.terms.specs.Base.{within}
+use Rattle.terms.specs.Names.{folded, isName, under}
+use Rattle.fields.specs.Table.{Field, selected, waiting, view}
 use Rattle.rules.specs.Rule.Call.{Call, table, event, actions, left, Past, partyOf, idOf, tagOf, sends, carried, latest}
 use Rattle.rules.specs.Rule.Call.{typed}
-use Rattle.rules.specs.Rules.{be, Frame}
-use Rattle.rules.specs.Laws.Happens.{idAt}
+use Rattle.rules.specs.Sheet.{be, Frame}
+use Rattle.rules.specs.Rule.Desk.{idAt}
 
 -- Domain bar: what a seat's screen was last sent to show is what was typed for its selected tab, in lower case. Where none
 -- is selected it is empty, or none was ever sent.

@@ -3,9 +3,8 @@ use Prim.Native.Nat.{ℕ, _+_, _-_}
 use mathlib.Core.Bool.{Bool, not, _&&_, _||_, cond}
 use mathlib.Core.List.{List, [], _∷_, _++_}
 use lib.Dec.{eqb}
-use Rattle.names.specs.Base.{within, alike}
-use Rattle.names.specs.Names.{folded, soundBook, suffixOf}
-use Rattle.table.specs.Table.{mostOpens, tabId}
+use Rattle.terms.specs.Base.{within, alike}
+use Rattle.terms.specs.Names.{folded, soundBook, suffixOf}
 use Rattle.rules.specs.Rule.Frame.{Frame}
 use Rattle.rules.specs.Rule.Event.{part}
 use Rattle.rules.specs.Rule.Action.{bar, go, render, key, mouse, startTab, stopTab, startProcess, stopProcess}
@@ -34,9 +33,9 @@ unfoldable pub openRule : Desk → List ℕ → List ℕ → Reply
 openRule d b x =
     cond (not (soundBook b)) (refuse 6)
     (cond (not (acceptable b x)) (refuse 7)
-    (cond (eqb (d .tabs) 10) (refuse 8)
-    (cond (eqb (d .opens) mostOpens) (refuse 9)
-    (reply (openActions d (tabId (d .seat) (d .opens + 1)) x) (openTab x)))))
+    (cond (eqb (d .tabCount) 10) (refuse 8)
+    (cond (d .spent) (refuse 9)
+    (reply (openActions d (d .nextId) x) (openTab x)))))
 
 -- ---- keys and mouse
 
@@ -46,7 +45,7 @@ selectRule d k = cond (d .live k) (reply (render (d .id k) ∷ bar (d .seat) (d 
 
 -- "stop tab, stop process if it was the last tab, empty bar": of the tab in slot k
 unfoldable pub closeActions : Desk → ℕ → List Frame
-closeActions d k = stopTab (d .id k) ∷ (only (d .last k) (stopProcess (d .process k)) ++ (bar (d .seat) [] ∷ []))
+closeActions d k = stopTab (d .id k) ∷ (only (d .lastTab k) (stopProcess (d .process k)) ++ (bar (d .seat) [] ∷ []))
 
 -- "Key 25 (F12): .. no action if none is selected."
 unfoldable pub closeRule : Desk → Reply

@@ -1,15 +1,15 @@
 -- The two calls, document 01, "Numbers given back" and "Table", its last paragraph: what each gives for any bytes, refusals in
 -- the document's order, and what a call leaves. Assumes nothing.
-use Prim.Native.Nat.{ℕ, _+_, _*_}
+use Prim.Native.Nat.{ℕ, _+_, _*_, _/_, _%_}
 use mathlib.Core.Path.{_≡_}
 use mathlib.Core.Bool.{not, cond}
 use mathlib.Core.List.{List, []}
 use lib.ListN.{length}
 use lib.Dec.{eqb, ltb}
-use Rattle.names.specs.Names.{soundBook}
-use Rattle.table.specs.Table.{tenant, tableBytes, view, soundTable, tabOf, processOf, fresh}
-use Rattle.table.specs.declared.find.Place.{Place}
-use Rattle.table.specs.declared.find.Place.the-variants.{Nowhere, At}
+use Rattle.terms.specs.Names.{soundBook}
+use Rattle.fields.specs.Table.{tenant, tableBytes, view, soundTable, tabOf, processOf, fresh}
+use Rattle.fields.specs.declared.place.Place.{Place}
+use Rattle.fields.specs.declared.place.Place.the-variants.{Nowhere, At}
 use Rattle.rules.specs.Rule.Frame.{Frame, frames, over}
 use Rattle.rules.specs.Rule.Event.{part, readingOf}
 use Rattle.rules.specs.Rule.Desk.{Desk, deskAt, Reply, changed}
@@ -44,7 +44,7 @@ atTab t n (At s k) f = made t s (f (deskAt t s) k)
 -- 4: "seat not let, tab or process not live, network id not 0"; 10: "result or document that no such tab waits for"
 unfoldable pub eventRule : List ℕ → List ℕ → List ℕ → Event → Outcome
 eventRule t b e (Seat s m) = cond (eqb (view t (tenant s)) 0) (refused 4 t) (made t s (seatRule (deskAt t s) b e m))
-eventRule t b e (Tab i m) = atTab t 4 (tabOf (view t) i) (λ d k. tabRule d e k m)
+eventRule t b e (Tab i m) = atTab t 4 (tabOf (view t) i) (λ d k. tabRule d b e k m)
 eventRule t b e (Process n r) =
     cond (eqb (processOf (view t) n) 0) (refused 4 t)
     (atTab t 10 (tabOf (view t) (r .tab)) (λ d k. resultRule d n k (part e (r .body))))
@@ -79,6 +79,16 @@ startOf t b =
 -- the number, the count of actions and the count of bytes written, in one number
 unfoldable pub packed : ℕ → ℕ → ℕ → ℕ
 packed n actions written = n + 256 * actions + 65536 * written
+
+-- and each of them read out of it; what stands at bit 32 and above is not looked at
+unfoldable pub numberIn : ℕ → ℕ
+numberIn r = r % 256
+
+unfoldable pub actionsIn : ℕ → ℕ
+actionsIn r = r / 256 % 256
+
+unfoldable pub bytesIn : ℕ → ℕ
+bytesIn r = r / 65536 % 65536
 
 unfoldable pub answer : Outcome → ℕ
 answer x = packed (x .number) (length (x .actions)) (length (frames (x .actions)))

@@ -4,7 +4,7 @@ use Prim.Native.Nat.{ℕ}
 use mathlib.Core.Bool.{Bool, not, _&&_, cond}
 use mathlib.Core.List.{List, [], _∷_}
 use lib.Dec.{eqb}
-use Rattle.table.specs.declared.mark.Mark.the-variants.{Cookie, Document}
+use Rattle.fields.specs.declared.mark.Mark.the-variants.{Cookie, Document}
 use Rattle.rules.specs.Rule.Event.{part}
 use Rattle.rules.specs.Rule.Action.{paint, error, document, cookie, set, get, fetch, openSocket}
 use Rattle.rules.specs.Rule.Desk.{Desk, Reply, refuse, reply, Change, stay, setMark, clearMark}
@@ -40,12 +40,14 @@ retrieveRule d k domain =
     ask (cookieDomain domain (d .suffix k) && not (d .waits k Cookie)) (d .id k) (get (d .process k) (d .id k) domain)
     (setMark k Cookie)
 
-unfoldable pub tabRule : Desk → List ℕ → ℕ → TabMessage → Reply
-tabRule d e k (Display p) = displayRule d k (part e p)
-tabRule d e k (Socket port h) = socketRule d k port (part e h)
-tabRule d e k (Url u) = urlRule d k (part e u)
-tabRule d e k (Store n c) = storeRule d k (part e n) (part e c)
-tabRule d e k (Retrieve n) = retrieveRule d k (part e n)
+-- ---- a tab's message, its bytes being in e; b is the book, as a seat's rule has it, and none of these reads it
+
+unfoldable pub tabRule : Desk → List ℕ → List ℕ → ℕ → TabMessage → Reply
+tabRule d b e k (Display p) = displayRule d k (part e p)
+tabRule d b e k (Socket port h) = socketRule d k port (part e h)
+tabRule d b e k (Url u) = urlRule d k (part e u)
+tabRule d b e k (Store n c) = storeRule d k (part e n) (part e c)
+tabRule d b e k (Retrieve n) = retrieveRule d k (part e n)
 
 -- ---- to the tab
 

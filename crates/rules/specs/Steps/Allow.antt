@@ -10,11 +10,11 @@ use lib.ListN.{length, getD, take, drop, drop-of-length-le}
 use lib.Seq.{drop-cons, getD-take, length-take-le}
 use lib.Dec.{eqb}
 use borrow.Author.Tests.{eq-eqb, ne-eqb, lt-ltb, le-ltb}
-use Rattle.names.specs.Base.{within, every, alike}
-use Rattle.names.specs.Names.{isName, under}
-use Rattle.names.specs.Text as Text
-use Rattle.names.specs.Laws.Bools.{within-in, within-low, within-high}
-use Rattle.names.specs.Laws.Lists.{every-step, every-end}
+use Rattle.terms.specs.Base.{within, every, alike}
+use Rattle.terms.specs.Names.{isName, under}
+use Rattle.terms.specs.Text as Text
+use Rattle.terms.specs.Laws.Bools.{within-in, within-low, within-high}
+use Rattle.terms.specs.Laws.Lists.{every-step, every-end}
 use Rattle.rules.specs.Rule.Allow.{cookieDomain, socketHost, socketAllowed, goesOn, http, https, isUrl}
 
 -- ---- domains and hosts: the answer on the name, then on what it is under

@@ -6,17 +6,17 @@ use mathlib.Core.Logic.{_≢_}
 use mathlib.Core.List.{List, [], _∷_}
 use lib.Dec.{eqb}
 use borrow.Author.Tests.{eq-eqb, ne-eqb}
-use Rattle.names.specs.Laws.Bools.{and-right}
-use Rattle.table.specs.Table.{view, waits, unmarked}
-use Rattle.table.specs.declared.mark.Mark.{Mark}
-use Rattle.table.specs.declared.mark.Mark.the-variants.{Cookie, Document}
+use Rattle.terms.specs.Laws.Bools.{and-right}
+use Rattle.fields.specs.Table.{view, waits, unmarked}
+use Rattle.fields.specs.declared.mark.Mark.{Mark}
+use Rattle.fields.specs.declared.mark.Mark.the-variants.{Cookie, Document}
 use Rattle.rules.specs.Rule.Frame.{framed}
 use Rattle.rules.specs.Rule.Desk.{desk, deskAt, reply, clearMark, changed}
 use Rattle.rules.specs.Rule.Tab.{resultRule, documentRule}
 use Rattle.rules.specs.Held.{Sent, Says, Replied}
 use Rattle.rules.specs.Steps.Decide.{replied-refused, replied-done}
 use Rattle.rules.specs.Steps.Tab.{sent-id}
-use Rattle.rules.specs.declared.given.Given.{Given}
+use Rattle.rules.specs.declared.verdict.Verdict.{Verdict}
 
 module _ (t : List ℕ) (s k : ℕ) where
   -- ---- result
@@ -36,13 +36,13 @@ module _ (t : List ℕ) (s k : ℕ) where
     unfolding desk
     asked-waits e h = and-right (eqb (deskAt t s .process k) n) (waits (view t) s k Cookie) (sym e ∙ h)
 
-    pub result-refused : {o : List ℕ} {r : Bool} {g : Given} (x : List ℕ)
+    pub result-refused : {o : List ℕ} {r : Bool} {g : Verdict} (x : List ℕ)
         → r ≡ eqb (deskAt t s .process k) n && deskAt t s .waits k Cookie → r ≡ false → Says 10 0 0 g
         → Replied t s (resultRule (deskAt t s) n k x) o t o g
     unfolding resultRule
     result-refused x e h = replied-refused (rw (sym e ∙ h))
 
-    pub result-passed : {o t′ o′ : List ℕ} {r : Bool} {g : Given} (x : List ℕ)
+    pub result-passed : {o t′ o′ : List ℕ} {r : Bool} {g : Verdict} (x : List ℕ)
         → r ≡ eqb (deskAt t s .process k) n && deskAt t s .waits k Cookie → r ≡ true
         → Replied t s (reply (framed 2 (deskAt t s .id k) 7 x ∷ []) (clearMark k Cookie)) o t′ o′ g
         → Replied t s (resultRule (deskAt t s) n k x) o t′ o′ g
@@ -51,12 +51,12 @@ module _ (t : List ℕ) (s k : ℕ) where
 
   -- ---- document
 
-  pub document-refused : {o : List ℕ} {r : Bool} {g : Given} (x : List ℕ) → r ≡ waits (view t) s k Document → r ≡ false
+  pub document-refused : {o : List ℕ} {r : Bool} {g : Verdict} (x : List ℕ) → r ≡ waits (view t) s k Document → r ≡ false
       → Says 10 0 0 g → Replied t s (documentRule (deskAt t s) k x) o t o g
   unfolding documentRule desk
   document-refused x e h = replied-refused (rw (sym e ∙ h))
 
-  pub document-passed : {o t′ o′ : List ℕ} {r : Bool} {g : Given} (x : List ℕ) → r ≡ waits (view t) s k Document → r ≡ true
+  pub document-passed : {o t′ o′ : List ℕ} {r : Bool} {g : Verdict} (x : List ℕ) → r ≡ waits (view t) s k Document → r ≡ true
       → Replied t s (reply (framed 2 (deskAt t s .id k) 6 x ∷ []) (clearMark k Document)) o t′ o′ g
       → Replied t s (documentRule (deskAt t s) k x) o t′ o′ g
   unfolding documentRule desk
@@ -64,7 +64,7 @@ module _ (t : List ℕ) (s k : ℕ) where
 
   -- ---- what is passed on
 
-  pub passed : {o t′ o′ : List ℕ} {i tag n : ℕ} {g : Given} (m : Mark) (x : List ℕ) → i ≡ deskAt t s .id k
+  pub passed : {o t′ o′ : List ℕ} {i tag n : ℕ} {g : Verdict} (m : Mark) (x : List ℕ) → i ≡ deskAt t s .id k
       → Sent o 0 (framed 2 i tag x ∷ []) o′ n → t′ ≡ unmarked t s k m → Says 0 1 n g
       → Replied t s (reply (framed 2 (deskAt t s .id k) tag x ∷ []) (clearMark k m)) o t′ o′ g
   unfolding changed

@@ -6,12 +6,12 @@ use mathlib.Core.List.{List}
 use native.Mathlib.Omega.{arith}
 use lib.ListN.{length}
 use lib.Dec.{eqb}
-use Rattle.names.specs.Laws.Bools.{Range}
-use Rattle.table.specs.Table.{View, view, selected, serial, row, number, tabs, tabId, nameOf}
-use Rattle.table.specs.Table.{SeatOf, TabOf, RowOf, TabLive, Closable, mostOpens}
-use Rattle.table.specs.Laws.Asked.{sound-seat, live-tab, live-row, live-serial, let-seat, selected-tab}
-use Rattle.table.specs.Laws.There.{live-there}
-use Rattle.table.specs.Laws.Find.{name-short}
+use Rattle.terms.specs.Base.{Range}
+use Rattle.fields.specs.Table.{View, view, selected, serial, row, number, tabs, tabId, nameOf}
+use Rattle.fields.specs.Table.{SeatOf, TabOf, RowOf, TabLive, Closable, mostOpens}
+use Rattle.fields.specs.Laws.Asked.{sound-seat, live-tab, live-row, live-serial, let-seat, selected-tab}
+use Rattle.fields.specs.Laws.There.{live-there}
+use Rattle.fields.specs.Laws.Find.{name-short}
 use Rattle.rules.specs.Rule.Desk.{desk}
 use Rattle.rules.specs.Held.{Ready, ReadyTab, Shows}
 
@@ -30,7 +30,7 @@ module _ (v : View) (s k : ℕ) where
   unfolding desk
   process-is e f = f ∙ ap (λ (p : ℕ). v (number p)) e
 
-  pub last-is : {p n : ℕ} → p ≡ v (row s k) → n ≡ v (tabs p) → eqb n 1 ≡ desk v s .last k
+  pub last-is : {p n : ℕ} → p ≡ v (row s k) → n ≡ v (tabs p) → eqb n 1 ≡ desk v s .lastTab k
   unfolding desk
   last-is e f = ap (λ (n : ℕ). eqb n 1) (f ∙ ap (λ (p : ℕ). v (tabs p)) e)
 

@@ -7,10 +7,10 @@ use mathlib.Core.List.{List, [], _∷_, _++_}
 use native.Mathlib.Omega.{arith}
 use lib.ListN.{length}
 use borrow.Author.Tests.{eq-eqb, ne-eqb}
-use Rattle.names.specs.Base.{within}
-use Rattle.names.specs.Laws.Bools.{Range, within-at}
-use Rattle.table.specs.Table.{view, selected, live, picked, closed}
-use Rattle.table.specs.Laws.There.{live-there}
+use Rattle.terms.specs.Base.{within, Range}
+use Rattle.terms.specs.Laws.Bools.{within-at}
+use Rattle.fields.specs.Table.{view, selected, live, picked, closed}
+use Rattle.fields.specs.Laws.There.{live-there}
 use Rattle.rules.specs.Rule.Frame.{be, framed}
 use Rattle.rules.specs.Rule.Action.{bar, render, stopTab, stopProcess}
 use Rattle.rules.specs.Rule.Desk.{Desk, desk, deskAt, reply, stay, selectTab, closeTab, changed}
@@ -18,7 +18,7 @@ use Rattle.rules.specs.Rule.Seat.{only, selectRule, closeActions, closeR
 use Rattle.rules.specs.Held.{Sent, Says, Replied, ReadyTab, barOf}
 use Rattle.rules.specs.Laws.Sent.{sent-then, sent-payload, size-only}
 use Rattle.rules.specs.Steps.Decide.{replied-refused, replied-idle, replied-done}
-use Rattle.rules.specs.declared.given.Given.{Given}
+use Rattle.rules.specs.declared.verdict.Verdict.{Verdict}
 
 -- ---- the bar
 
@@ -49,12 +49,12 @@ selected-sent {t} {o} {o₁} {o₂} {s} {k} {i} {a} {r} w f g e =
     (sent-then (omega arith) f (sent-payload (barOf d k) (d .suffix k) (sym (bar-slot d k (λ z. omega arith))) g))
 
 module _ {t : List ℕ} {s : ℕ} where
-  pub select-none : {o : List ℕ} {g : Given} (k : ℕ) → live (view t) s k ≡ false → Says 0 0 0 g
+  pub select-none : {o : List ℕ} {g : Verdict} (k : ℕ) → live (view t) s k ≡ false → Says 0 0 0 g
       → Replied t s (selectRule (deskAt t s) k) o t o g
   unfolding selectRule desk
   select-none k e = replied-idle (rw e)
 
-  pub select-done : {o t′ o′ : List ℕ} {n : ℕ} {g : Given} (k : ℕ) → live (view t) s k ≡ true
+  pub select-done : {o t′ o′ : List ℕ} {n : ℕ} {g : Verdict} (k : ℕ) → live (view t) s k ≡ true
       → Sent o 0 (render (deskAt t s .id k) ∷ bar s (deskAt t s .suffix k) ∷ []) o′ n → t′ ≡ picked t s k → Says 0 2 n g
       → Replied t s (selectRule (deskAt t s) k) o t′ o′ g
   unfolding selectRule desk changed
@@ -65,7 +65,7 @@ module _ {t : List ℕ} {s : ℕ} where
 pub closed-sent : {t o o₁ o₂ o₃ : List ℕ} {s k i a b r : ℕ} (l : Bool) (p : ℕ) → ReadyTab t o s k
     → Sent o 0 (framed 5 i 2 [] ∷ []) o₁ a → Sent o₁ a (only l (stopProcess p)) o₂ b
     → Sent o₂ b (bar s (barOf (deskAt t s) 0) ∷ []) o₃ r
-    → i ≡ deskAt t s .id k → l ≡ deskAt t s .last k → p ≡ deskAt t s .process k
+    → i ≡ deskAt t s .id k → l ≡ deskAt t s .lastTab k → p ≡ deskAt t s .process k
     → Sent o 0 (closeActions (deskAt t s) k) o₃ r
 unfolding closeActions barOf desk
 closed-sent {t} {o} {o₁} {o₂} {o₃} {s} {k} {i} {a} {b} {r} l p w f g h e c q =
@@ -74,9 +74,9 @@ closed-sent {t} {o} {o₁} {o₂} {o₃} {s} {k} {i} {a} {b} {r} l p w f g h e c
     let z = size-only l (stopProcess p) in
     let x = f .next in
     let y = f .same in
-    subst (λ (j : ℕ). Sent o 0 (stopTab j ∷ (only (d .last k) (stopProcess (d .process k)) ++ (bar s [] ∷ []))) o₃ r) e
+    subst (λ (j : ℕ). Sent o 0 (stopTab j ∷ (only (d .lastTab k) (stopProcess (d .process k)) ++ (bar s [] ∷ []))) o₃ r) e
     (sent-then (omega arith) f
-    (subst (λ (j : ℕ). Sent o₁ a (only (d .last k) (stopProcess j) ++ (bar s [] ∷ [])) o₃ r) q
+    (subst (λ (j : ℕ). Sent o₁ a (only (d .lastTab k) (stopProcess j) ++ (bar s [] ∷ [])) o₃ r) q
     (subst (λ (c : Bool). Sent o₁ a (only c (stopProcess p) ++ (bar s [] ∷ [])) o₃ r) c (sent-then (omega arith) g h))))
 
 close-is : (t : List ℕ) (s k : ℕ) → k ≡ view t (selected s) → k ≢ 0
@@ -86,19 +86,19 @@ close-is t s k e h =
     rw (ne-eqb (view t (selected s)) 0 (λ z. h (e ∙ z)))
     (ap (λ (j : ℕ). reply (closeActions (deskAt t s) j) closeTab) (sym e))
 
-count-closed : (d : Desk) (k : ℕ) (b : Bool) → d .last k ≡ b → length (closeActions d k) ≡ cond b 3 2
+count-closed : (d : Desk) (k : ℕ) (b : Bool) → d .lastTab k ≡ b → length (closeActions d k) ≡ cond b 3 2
 unfolding closeActions only
 count-closed d k true e = rw e
 count-closed d k false e = rw e
 
 module _ {t : List ℕ} {s : ℕ} where
-  pub close-none : {o : List ℕ} {k : ℕ} {g : Given} → k ≡ view t (selected s) → k ≡ 0 → Says 0 0 0 g
+  pub close-none : {o : List ℕ} {k : ℕ} {g : Verdict} → k ≡ view t (selected s) → k ≡ 0 → Says 0 0 0 g
       → Replied t s (closeRule (deskAt t s)) o t o g
   unfolding closeRule desk
   close-none e z = replied-idle (rw (eq-eqb (view t (selected s)) 0 (sym e ∙ z)))
 
-  pub close-done : {o t′ o′ : List ℕ} {k n m : ℕ} {g : Given} (b : Bool) → k ≡ view t (selected s) → k ≢ 0
-      → b ≡ deskAt t s .last k → Sent o 0 (closeActions (deskAt t s) k) o′ n → t′ ≡ closed t s
+  pub close-done : {o t′ o′ : List ℕ} {k n m : ℕ} {g : Verdict} (b : Bool) → k ≡ view t (selected s) → k ≢ 0
+      → b ≡ deskAt t s .lastTab k → Sent o 0 (closeActions (deskAt t s) k) o′ n → t′ ≡ closed t s
       → Says 0 m n g → m ≡ cond b 3 2 → Replied t s (closeRule (deskAt t s)) o t′ o′ g
   unfolding changed
   close-done {o} {t′} {o′} {k} {n} {m} {g} b e h l w f y c =
@@ -108,12 +108,12 @@ module _ {t : List ℕ} {s : ℕ} where
 -- ---- what goes to the selected tab
 
 module _ {t : List ℕ} {s : ℕ} (tag : ℕ) (x : List ℕ) where
-  pub pass-none : {o : List ℕ} {k : ℕ} {g : Given} → k ≡ view t (selected s) → k ≡ 0 → Says 0 0 0 g
+  pub pass-none : {o : List ℕ} {k : ℕ} {g : Verdict} → k ≡ view t (selected s) → k ≡ 0 → Says 0 0 0 g
       → Replied t s (passRule (deskAt t s) (λ (i : ℕ). framed 2 i tag x)) o t o g
   unfolding passRule desk
   pass-none e z = replied-idle (rw (eq-eqb (view t (selected s)) 0 (sym e ∙ z)))
 
-  pub pass-done : {o o′ : List ℕ} {k i n : ℕ} {g : Given} → k ≡ view t (selected s) → k ≢ 0 → i ≡ deskAt t s .id k
+  pub pass-done : {o o′ : List ℕ} {k i n : ℕ} {g : Verdict} → k ≡ view t (selected s) → k ≢ 0 → i ≡ deskAt t s .id k
       → Sent o 0 (framed 2 i tag x ∷ []) o′ n → Says 0 1 n g
       → Replied t s (passRule (deskAt t s) (λ (i : ℕ). framed 2 i tag x)) o t o′ g
   unfolding passRule desk changed
@@ -145,12 +145,12 @@ pub plain-seen : (k : ℕ) → within 8 10 k ≡ false → k ≢ 13 → within 3
 unfolding plain
 plain-seen k e h = rw (e, ne-eqb k 13 h)
 
-pub key-bad : {t o : List ℕ} {s : ℕ} {g : Given} (k : ℕ) → within 14 23 k ≡ false → k ≢ 25 → plain k ≡ false → Says 5 0 0 g
+pub key-bad : {t o : List ℕ} {s : ℕ} {g : Verdict} (k : ℕ) → within 14 23 k ≡ false → k ≢ 25 → plain k ≡ false → Says 5 0 0 g
     → Replied t s (keyRule (deskAt t s) k) o t o g
 unfolding keyRule
 key-bad k h e p y = replied-refused (rw (h, ne-eqb k 25 e, p)) y
 
-module _ {t o t′ o′ : List ℕ} {s : ℕ} {g : Given} (k : ℕ) where
+module _ {t o t′ o′ : List ℕ} {s : ℕ} {g : Verdict} (k : ℕ) where
   pub key-select : {w : ℕ} → w ≡ k → within 14 23 k ≡ true → Replied t s (selectRule (deskAt t s) (w - 13)) o t′ o′ g
       → Replied t s (keyRule (deskAt t s) k) o t′ o′ g
   unfolding keyRule

@@ -8,12 +8,12 @@ use native.Mathlib.Omega.{arith}
 use lib.ListN.{length, drop, length-drop}
 use lib.Dec.{eqb}
 use borrow.Author.Tests.{eq-eqb, ne-eqb, eqb-true, not-false}
-use Rattle.names.specs.Base.{alike}
-use Rattle.names.specs.Names.{soundBook, suffixOf}
-use Rattle.names.specs.Laws.Lists.{alike-refl, alike-eq}
-use Rattle.names.specs.Laws.Bools.{agree}
-use Rattle.names.specs.Laws.Answer.{suffix-place, suffix-number, suffix-six}
-use Rattle.table.specs.Table.{view, opens, mostOpens, liveTabs}
+use Rattle.terms.specs.Base.{alike}
+use Rattle.terms.specs.Names.{soundBook, suffixOf}
+use Rattle.terms.specs.Laws.Lists.{alike-refl, alike-eq}
+use Rattle.terms.specs.Laws.Bools.{agree}
+use Rattle.terms.specs.Laws.Answer.{suffix-from, suffix-number, suffix-six}
+use Rattle.fields.specs.Table.{view, opens, mostOpens, liveTabs}
 use Rattle.rules.specs.Rule.Desk.{desk, deskAt}
 use Rattle.rules.specs.Rule.Seat.{acceptable}
 use Rattle.rules.specs.Held.{bookNumber, openNumber}
@@ -27,7 +27,7 @@ module _ (b x : List ℕ) where
 
   -- a part that is as long as the host is all of it
   part-whole : suffixOf x b .why ≡ 0 → length (suffixOf x b .part) ≡ length x → suffixOf x b .part ≡ x
-  part-whole z l = let p = suffix-place x b z in p ∙ whole (suffixOf x b .place) x (sym (ap length p) ∙ l)
+  part-whole z l = let p = suffix-from x b z in p ∙ whole (suffixOf x b .from) x (sym (ap length p) ∙ l)
     where
       whole : (n : ℕ) (y : List ℕ) → length (drop n y) ≡ length y → drop n y ≡ y
       whole zero y h = refl

@@ -7,24 +7,24 @@ use mathlib.Core.List.{List, [], _∷_, _++_}
 use native.Mathlib.Omega.{arith}
 use lib.ListN.{length}
 use lib.Dec.{eqb}
-use Rattle.names.specs.Names.{folded, soundBook}
-use Rattle.names.specs.Laws.Fold.{length-folded}
-use Rattle.table.specs.Table.{view, opens, last, tabId, mostOpens, ownerAt, processWith, opened}
+use Rattle.terms.specs.Names.{folded, soundBook}
+use Rattle.terms.specs.Laws.Fold.{length-folded}
+use Rattle.fields.specs.Table.{view, opens, last, tabId, mostOpens, ownerAt, processWith, opened}
 use Rattle.rules.specs.Rule.Frame.{be, Frame, framed}
 use Rattle.rules.specs.Rule.Action.{startProcess, startTab, go, bar}
-use Rattle.rules.specs.Rule.Desk.{Desk, desk, deskAt, Reply, reply, refuse, openTab, changed}
+use Rattle.rules.specs.Rule.Desk.{Desk, desk, deskAt, Reply, reply, refuse, openTab, changed, newId}
 use Rattle.rules.specs.Rule.Seat.{only, acceptable, openActions, openRule}
-use Rattle.rules.specs.Held.{Sent, Says, Replied, Taking, Found, newId, bookNumber, openNumber}
+use Rattle.rules.specs.Held.{Sent, Says, Replied, Taking, Found, bookNumber, openNumber}
 use Rattle.rules.specs.Laws.Open.{accepted}
 use Rattle.rules.specs.Laws.Sent.{sent-then, sent-payload, size-only}
 use Rattle.rules.specs.Steps.Decide.{replied-refused, replied-done}
-use Rattle.rules.specs.declared.given.Given.{Given}
+use Rattle.rules.specs.declared.verdict.Verdict.{Verdict}
 
 -- ---- the rule by its number
 
 open-number : (d : Desk) (b x : List ℕ) (n : ℕ) → n ≡ openNumber d b x → n ≢ 0 → openRule d b x ≡ refuse n
 unfolding openNumber bookNumber openRule
-open-number d b x n e h = by (soundBook b) (acceptable b x) (eqb (d .tabs) 10) (eqb (d .opens) mostOpens) e
+open-number d b x n e h = by (soundBook b) (acceptable b x) (eqb (d .tabCount) 10) (d .spent) e
   where
     number : (s a : Bool) → ℕ
     number s a = cond (not s) 6 (cond (not a) 7 0)
@@ -33,7 +33,7 @@ open-number d b x n e h = by (soundBook b) (acceptable b x) (eqb (d .tabs) 10) (
         → cond (not s) (refuse 6)
         (cond (not a) (refuse 7)
         (cond full (refuse 8)
-        (cond spent (refuse 9) (reply (openActions d (tabId (d .seat) (d .opens + 1)) x) (openTab x)))))
+        (cond spent (refuse 9) (reply (openActions d (d .nextId) x) (openTab x)))))
         ≡ refuse n
     by false a f p k = ap refuse (sym k)
     by true false f p k = ap refuse (sym k)
@@ -107,7 +107,7 @@ module _ (t : List ℕ) (s : ℕ) (x : List ℕ) where
 
   -- ---- the exits
 
-  pub take-done : {o t′ o′ : List ℕ} {n p m owner : ℕ} {g : Given} (c : Bool) → Found t s x owner p → eqb p 0 ≡ c
+  pub take-done : {o t′ o′ : List ℕ} {n p m owner : ℕ} {g : Verdict} (c : Bool) → Found t s x owner p → eqb p 0 ≡ c
       → Sent o 0 (openActions (deskAt t s) (newId (view t) s) x) o′ n → t′ ≡ opened t s x → Says 0 m n g → m ≡ cond c 4 3
       → Replied t s (reply (openActions (deskAt t s) (newId (view t) s) x) (openTab x)) o t′ o′ g
   unfolding changed
@@ -116,11 +116,11 @@ module _ (t : List ℕ) (s : ℕ) (x : List ℕ) where
       (subst (λ (i : ℕ). Says 0 i n g)
       (j ∙ sym (count-open (deskAt t s) (newId (view t) s) x c (is-new t s x (found-row t s x u) ec))) y)
 
-  pub open-refused : {o : List ℕ} {n : ℕ} {g : Given} (b : List ℕ) → n ≡ openNumber (deskAt t s) b x → n ≢ 0 → Says n 0 0 g
+  pub open-refused : {o : List ℕ} {n : ℕ} {g : Verdict} (b : List ℕ) → n ≡ openNumber (deskAt t s) b x → n ≢ 0 → Says n 0 0 g
       → Replied t s (openRule (deskAt t s) b x) o t o g
   open-refused {n = n} b e h y = replied-refused (open-number (deskAt t s) b x n e h) y
 
-  pub open-done : {o t′ o′ : List ℕ} {n : ℕ} {g : Given} (b : List ℕ) → n ≡ openNumber (deskAt t s) b x → n ≡ 0
+  pub open-done : {o t′ o′ : List ℕ} {n : ℕ} {g : Verdict} (b : List ℕ) → n ≡ openNumber (deskAt t s) b x → n ≡ 0
       → Replied t s (reply (openActions (deskAt t s) (newId (view t) s) x) (openTab x)) o t′ o′ g
       → Replied t s (openRule (deskAt t s) b x) o t′ o′ g
   open-done {o} {t′} {o′} {n} {g} b e z w =

@@ -7,8 +7,8 @@ use native.Mathlib.Omega.{arith}
 use native.Mathlib.Numerals.{add-one}
 use lib.ListN.{length, getD, set, take, length-set}
 use lib.Seq.{length-take-le, take-suc, take-all}
-use Rattle.names.specs.Names.{lower}
-use Rattle.names.specs.Laws.Fold.{getD-folded, length-folded}
+use Rattle.terms.specs.Names.{lower}
+use Rattle.terms.specs.Laws.Fold.{getD-folded, length-folded}
 use Rattle.rules.specs.Rule.Frame.{be, head, over}
 use Rattle.rules.specs.Held.{cased, Put}
 use Rattle.rules.specs.Laws.Over.{over-nothing, over-byte, over-over}

@@ -7,8 +7,8 @@ use Prim.Native.Nat.{ℕ, _+_, _-_, _≤_, _<_}
 use lib.ListN.{length, getD}
 use lib.Dec.{eqb, leb}
 use borrow.Author.Tests.{ne-eqb, le-leb, lt-leb, leb-true}
-use Rattle.names.specs.Laws.Bools.{and-left, and-right}
-use Rattle.table.specs.Table.{num}
+use Rattle.terms.specs.Laws.Bools.{and-left, and-right}
+use Rattle.terms.specs.Names.{num}
 use Rattle.rules.specs.Rule.Event.{sized, rest, field, when, fromSeat, fromTab, delivered, sentBy, readingOf}
 use Rattle.rules.specs.declared.event.Part.{Part}
 use Rattle.rules.specs.declared.event.Delivery.{Delivery}

@@ -1,31 +1,18 @@
 -- How what src/send.rt puts, part by part, comes to one frame. Assumes nothing.
 use Prim.Native.Nat.{ℕ, _+_, _≤_}
-use mathlib.Core.Path.{_≡_, ap, ap₂, sym, subst, _∙_}
+use mathlib.Core.Path.{_≡_, ap, sym, subst, _∙_}
 use mathlib.Core.Bool.{Bool, true, false}
 use mathlib.Core.List.{List, [], _∷_, _++_, append-nil}
 use native.Mathlib.Omega.{arith}
-use native.Mathlib.Nat.{add-assoc}
 use lib.ListN.{length, length-append}
-use Rattle.names.specs.Names.{folded}
-use Rattle.names.specs.Laws.Fold.{length-folded, folded-nil}
+use Rattle.terms.specs.Names.{folded}
+use Rattle.terms.specs.Laws.Fold.{length-folded, folded-nil}
 use Rattle.rules.specs.Rule.Frame.{framed, head, bytes, over}
 use Rattle.rules.specs.Held.{cased, Put, Wrote, Sent, Fits}
-use Rattle.rules.specs.Laws.Over.{over-over}
+use Rattle.rules.specs.Laws.Wrote.{wrote-then}
 use Rattle.rules.specs.Laws.Frame.{length-head}
 use Rattle.rules.specs.Laws.Sent.{sent-one}
 use Rattle.rules.specs.Steps.Put.{length-cased}
-
--- ---- one write after another
-
-pub wrote-then : {l : List ℕ} {at : ℕ} {x l₁ : List ℕ} {k : ℕ} {y l₂ : List ℕ} {r : ℕ} → at ≤ length l
-    → Wrote l at x l₁ k → Wrote l₁ k y l₂ r → Wrote l at (x ++ y) l₂ r
-wrote-then {l} {at} {x} {l₁} {k} {y} {l₂} {r} h a b =
-    record {
-      next =
-          b .next ∙ ap (λ (n : ℕ). n + length y) (a .next) ∙ add-assoc at (length x) (length y)
-          ∙ ap (λ (n : ℕ). at + n) (sym (length-append x y));
-      bytes = b .bytes ∙ ap₂ (λ (m : List ℕ) (n : ℕ). over m n y) (a .bytes) (a .next) ∙ over-over l at x y h;
-    }
 
 put-wrote : {o : List ℕ} {at : ℕ} {f : Bool} {x o′ : List ℕ} {r : ℕ} → Put o at f x o′ r → Wrote o at (cased f x) o′ r
 put-wrote {o} {at} {f} {x} w =

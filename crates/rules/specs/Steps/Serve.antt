@@ -8,10 +8,10 @@ use native.Mathlib.Omega.{arith}
 use lib.ListN.{length, take, drop}
 use lib.Dec.{eqb}
 use borrow.Author.Tests.{eq-eqb, ne-eqb, eqb-false, not-true, not-false}
-use Rattle.table.specs.Table.{view, tenant, tabOf, processOf}
-use Rattle.table.specs.Laws.Tab.{tab-of}
-use Rattle.table.specs.declared.find.Place.{Place}
-use Rattle.table.specs.declared.find.Place.the-variants.{Nowhere, At}
+use Rattle.fields.specs.Table.{view, tenant, tabOf, processOf}
+use Rattle.fields.specs.Laws.Tab.{tab-of}
+use Rattle.fields.specs.declared.place.Place.{Place}
+use Rattle.fields.specs.declared.place.Place.the-variants.{Nowhere, At}
 use Rattle.rules.specs.Rule.Frame.{framed}
 use Rattle.rules.specs.Rule.Event.{part}
 use Rattle.rules.specs.Rule.Desk.{deskAt}
@@ -19,10 +19,10 @@ use Rattle.rules.specs.Rule.Seat.{openRule, passRule, keyRule, seatRule}
 use Rattle.rules.specs.Rule.Tab.{displayRule, socketRule, urlRule, storeRule, retrieveRule, tabRule, resultRule}
 use Rattle.rules.specs.Rule.Tab.{documentRule}
 use Rattle.rules.specs.Rule.Step.{atTab, eventRule}
-use Rattle.rules.specs.Held.{Says, Replied, Decided, Served, Ready, ReadyTab, PartIn, StoreIn, TabIn}
+use Rattle.rules.specs.Held.{Says, Replied, Decided, Able, Ready, ReadyTab, PartIn, StoreIn, TabIn}
 use Rattle.rules.specs.Laws.Frame.{length-part}
 use Rattle.rules.specs.Steps.Decide.{decided-refused, decided-replied}
-use Rattle.rules.specs.declared.given.Given.{Given}
+use Rattle.rules.specs.declared.verdict.Verdict.{Verdict}
 use Rattle.rules.specs.declared.event.Part.{Part}
 use Rattle.rules.specs.declared.event.Delivery.{Delivery}
 use Rattle.rules.specs.declared.event.SeatMessage.{SeatMessage}
@@ -55,7 +55,7 @@ store-small e d c f g h =
 
 -- ---- what a seat sends
 
-module _ {t o t′ o′ : List ℕ} {s : ℕ} {g : Given} (b e : List ℕ) where
+module _ {t o t′ o′ : List ℕ} {s : ℕ} {g : Verdict} (b e : List ℕ) where
   pub seat-key : {m : SeatMessage} (k : ℕ) → m ≡ Key k → Replied t s (keyRule (deskAt t s) k) o t′ o′ g
       → Replied t s (seatRule (deskAt t s) b e m) o t′ o′ g
   unfolding seatRule
@@ -75,24 +75,24 @@ module _ {t o t′ o′ : List ℕ} {s : ℕ} {g : Given} (b e : List ℕ) where
 
 -- ---- what a tab sends
 
-module _ {t o t′ o′ : List ℕ} {s : ℕ} {g : Given} (e : List ℕ) (k : ℕ) where
+module _ {t o t′ o′ : List ℕ} {s : ℕ} {g : Verdict} (b e : List ℕ) (k : ℕ) where
   pub tab-display : {m : TabMessage} {x : List ℕ} (p : Part) → m ≡ Display p → x ≡ part e p
-      → Replied t s (displayRule (deskAt t s) k x) o t′ o′ g → Replied t s (tabRule (deskAt t s) e k m) o t′ o′ g
+      → Replied t s (displayRule (deskAt t s) k x) o t′ o′ g → Replied t s (tabRule (deskAt t s) b e k m) o t′ o′ g
   unfolding tabRule
   tab-display p h f w = rw h (subst (λ (y : List ℕ). Replied t s (displayRule (deskAt t s) k y) o t′ o′ g) f w)
 
   pub tab-socket : {m : TabMessage} {x : List ℕ} (port : ℕ) (p : Part) → m ≡ Socket port p → x ≡ part e p
-      → Replied t s (socketRule (deskAt t s) k port x) o t′ o′ g → Replied t s (tabRule (deskAt t s) e k m) o t′ o′ g
+      → Replied t s (socketRule (deskAt t s) k port x) o t′ o′ g → Replied t s (tabRule (deskAt t s) b e k m) o t′ o′ g
   unfolding tabRule
   tab-socket port p h f w = rw h (subst (λ (y : List ℕ). Replied t s (socketRule (deskAt t s) k port y) o t′ o′ g) f w)
 
   pub tab-url : {m : TabMessage} {x : List ℕ} (p : Part) → m ≡ Url p → x ≡ part e p
-      → Replied t s (urlRule (deskAt t s) k x) o t′ o′ g → Replied t s (tabRule (deskAt t s) e k m) o t′ o′ g
+      → Replied t s (urlRule (deskAt t s) k x) o t′ o′ g → Replied t s (tabRule (deskAt t s) b e k m) o t′ o′ g
   unfolding tabRule
   tab-url p h f w = rw h (subst (λ (y : List ℕ). Replied t s (urlRule (deskAt t s) k y) o t′ o′ g) f w)
 
   pub tab-store : {m : TabMessage} {x z : List ℕ} (d c : Part) → m ≡ Store d c → x ≡ part e d → z ≡ part e c
-      → Replied t s (storeRule (deskAt t s) k x z) o t′ o′ g → Replied t s (tabRule (deskAt t s) e k m) o t′ o′ g
+      → Replied t s (storeRule (deskAt t s) k x z) o t′ o′ g → Replied t s (tabRule (deskAt t s) b e k m) o t′ o′ g
   unfolding tabRule
   tab-store {z = z} d c h f q w =
       rw h
@@ -100,13 +100,13 @@ module _ {t o t′ o′ : List ℕ} {s : ℕ} {g : Given} (e : List ℕ) (k : �
       (subst (λ (y : List ℕ). Replied t s (storeRule (deskAt t s) k y z) o t′ o′ g) f w))
 
   pub tab-retrieve : {m : TabMessage} {x : List ℕ} (p : Part) → m ≡ Retrieve p → x ≡ part e p
-      → Replied t s (retrieveRule (deskAt t s) k x) o t′ o′ g → Replied t s (tabRule (deskAt t s) e k m) o t′ o′ g
+      → Replied t s (retrieveRule (deskAt t s) k x) o t′ o′ g → Replied t s (tabRule (deskAt t s) b e k m) o t′ o′ g
   unfolding tabRule
   tab-retrieve p h f w = rw h (subst (λ (y : List ℕ). Replied t s (retrieveRule (deskAt t s) k y) o t′ o′ g) f w)
 
 -- ---- an event
 
-pub seat-there : {t o : List ℕ} {r : Bool} (s : ℕ) → Served t o → r ≡ not (eqb (view t (tenant s)) 0) → r ≡ true → Ready t o s
+pub seat-there : {t o : List ℕ} {r : Bool} (s : ℕ) → Able t o → r ≡ not (eqb (view t (tenant s)) 0) → r ≡ true → Ready t o s
 seat-there {t} s w e h =
     record {
       sound = w .sound;
@@ -114,12 +114,12 @@ seat-there {t} s w e h =
       is-let = eqb-false (view t (tenant s)) 0 (not-true (eqb (view t (tenant s)) 0) (sym e ∙ h));
     }
 
-pub tab-there : {t o : List ℕ} {s k : ℕ} {place : Place} (i : ℕ) → Served t o → place ≡ tabOf (view t) i → place ≡ At s k
+pub tab-there : {t o : List ℕ} {s k : ℕ} {place : Place} (i : ℕ) → Able t o → place ≡ tabOf (view t) i → place ≡ At s k
     → ReadyTab t o s k
 tab-there {t} {o} {s} {k} i w e h =
     record { sound = w .sound; roomy = w .roomy; there = tab-of (view t) i s k (sym e ∙ h) .there }
 
-module _ {t o : List ℕ} {g : Given} (b e : List ℕ) where
+module _ {t o : List ℕ} {g : Verdict} (b e : List ℕ) where
   pub seat-unlet : {r : Bool} (s : ℕ) (m : SeatMessage) → r ≡ not (eqb (view t (tenant s)) 0) → r ≡ false → Says 4 0 0 g
       → Decided (eventRule t b e (Seat s m)) o t o g
   unfolding eventRule
@@ -149,14 +149,14 @@ module _ {t o : List ℕ} {g : Given} (b e : List ℕ) where
   unfolding eventRule atTab
   network-nowhere n d h q z = decided-refused (rw (eq-eqb n 0 h, sym q ∙ z))
 
-module _ {t o t′ o′ : List ℕ} {g : Given} (b e : List ℕ) where
+module _ {t o t′ o′ : List ℕ} {g : Verdict} (b e : List ℕ) where
   pub seat-served : {r : Bool} (s : ℕ) (m : SeatMessage) → r ≡ not (eqb (view t (tenant s)) 0) → r ≡ true
       → Replied t s (seatRule (deskAt t s) b e m) o t′ o′ g → Decided (eventRule t b e (Seat s m)) o t′ o′ g
   unfolding eventRule
   seat-served s m f h w = decided-replied (rw (not-true (eqb (view t (tenant s)) 0) (sym f ∙ h))) w
 
   pub tab-served : {place : Place} {s k : ℕ} (i : ℕ) (m : TabMessage) → place ≡ tabOf (view t) i → place ≡ At s k
-      → Replied t s (tabRule (deskAt t s) e k m) o t′ o′ g → Decided (eventRule t b e (Tab i m)) o t′ o′ g
+      → Replied t s (tabRule (deskAt t s) b e k m) o t′ o′ g → Decided (eventRule t b e (Tab i m)) o t′ o′ g
   unfolding eventRule atTab
   tab-served i m f h w = decided-replied (rw (sym f ∙ h)) w
 
@@ -176,6 +176,6 @@ module _ {t o t′ o′ : List ℕ} {g : Given} (b e : List ℕ) where
       decided-replied (rw (eq-eqb n 0 h, sym q ∙ z))
       (subst (λ (y : List ℕ). Replied t s (documentRule (deskAt t s) k y) o t′ o′ g) y w)
 
-pub event-is : {o t′ o′ : List ℕ} {g : Given} {v w : Event} (t b e : List ℕ) → v ≡ w → Decided (eventRule t b e w) o t′ o′ g
+pub event-is : {o t′ o′ : List ℕ} {g : Verdict} {v w : Event} (t b e : List ℕ) → v ≡ w → Decided (eventRule t b e w) o t′ o′ g
     → Decided (eventRule t b e v) o t′ o′ g
 event-is t b e h d = rw h d

@@ -6,22 +6,22 @@ use mathlib.Core.List.{List}
 use lib.ListN.{length}
 use lib.Dec.{eqb}
 use borrow.Author.Tests.{lt-ltb, le-ltb}
-use Rattle.names.specs.Names.{soundBook}
-use Rattle.table.specs.Table.{tableBytes, soundTable, fresh}
+use Rattle.terms.specs.Names.{soundBook}
+use Rattle.fields.specs.Table.{tableBytes, soundTable, fresh}
 use Rattle.rules.specs.Rule.Frame.{frames}
 use Rattle.rules.specs.Rule.Event.{readingOf}
 use Rattle.rules.specs.Rule.Step.{Outcome, refused, eventRule, readRule, roomNeeded, stepOf, startOf, packed, answer}
 use Rattle.rules.specs.Rule.Step.{Stepped, Started}
 use Rattle.rules.specs.Held.{Says, Decided}
 use Rattle.rules.specs.Steps.Decide.{decided-refused}
-use Rattle.rules.specs.declared.given.Given.{Given}
+use Rattle.rules.specs.declared.verdict.Verdict.{Verdict}
 use Rattle.rules.specs.declared.event.Event.{Event}
 use Rattle.rules.specs.declared.event.Reading.{Reading}
 use Rattle.rules.specs.declared.event.Reading.the-variants.{Whole, Malformed}
 
 -- ---- decide
 
-module _ {t o : List ℕ} {g : Given} (b e : List ℕ) where
+module _ {t o : List ℕ} {g : Verdict} (b e : List ℕ) where
   pub room-small : length o < roomNeeded → Says 1 0 0 g → Decided (stepOf (length o) t b e) o t o g
   unfolding stepOf
   room-small h = decided-refused (rw (lt-ltb (length o) roomNeeded h))
@@ -36,7 +36,7 @@ module _ {t o : List ℕ} {g : Given} (b e : List ℕ) where
   unfolding stepOf readRule
   event-malformed h f k q z = decided-refused (rw (le-ltb (length o) roomNeeded h, sym f ∙ k, sym q ∙ z))
 
-pub event-served : {o t′ o′ : List ℕ} {g : Given} {r : Bool} {v : Reading} (t b e : List ℕ) (w : Event)
+pub event-served : {o t′ o′ : List ℕ} {g : Verdict} {r : Bool} {v : Reading} (t b e : List ℕ) (w : Event)
     → roomNeeded ≤ length o
     → r ≡ soundTable t → r ≡ true → v ≡ readingOf e → v ≡ Whole w → Decided (eventRule t b e w) o t′ o′ g
     → Decided (stepOf (length o) t b e) o t′ o′ g
@@ -45,7 +45,7 @@ event-served {o = o} t b e w h f k q z d = rw (le-ltb (length o) roomNeeded h, s
 
 -- ---- step
 
-pub step-packed : {x : Outcome} {o t′ o′ : List ℕ} {g : Given} {r : ℕ} (n a w : ℕ) → Decided x o t′ o′ g → r ≡ packed n a w
+pub step-packed : {x : Outcome} {o t′ o′ : List ℕ} {g : Verdict} {r : ℕ} (n a w : ℕ) → Decided x o t′ o′ g → r ≡ packed n a w
     → n ≡ g .number → a ≡ g .actions → w ≡ g .written → Stepped x o t′ o′ r
 unfolding answer
 step-packed n a w d e en ea ew =

@@ -7,10 +7,10 @@ use mathlib.Core.List.{List, [], _∷_}
 use native.Mathlib.Omega.{arith}
 use lib.Dec.{eqb}
 use borrow.Author.Tests.{eqb-true, eqb-false}
-use Rattle.names.specs.Laws.Bools.{and-left, and-right, or-case}
+use Rattle.terms.specs.Laws.Bools.{and-left, and-right, or-case}
 use Rattle.rules.specs.Rule.Call.{Call, table, actions, left, isFrame, sends}
 use Rattle.rules.specs.Rule.Ids.{tabLive, processLive, Through, Begins, Addressed}
-use Rattle.rules.specs.Rules.{Frame, framed}
+use Rattle.rules.specs.Sheet.{Frame, framed}
 use Rattle.rules.specs.Time.Moves.{start-begins, stop-stops}
 use Rattle.rules.specs.Time.TabMoves.{TabAhead, TabMoves}
 use Rattle.rules.specs.Time.ProcessMoves.{ProcessAhead, ProcessMoves}

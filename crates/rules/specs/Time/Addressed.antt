@@ -5,19 +5,20 @@ use mathlib.Core.Bool.{true, false}
 use mathlib.Core.List.{List}
 use lib.ListN.{drop}
 use lib.Dec.{eqb}
-use Rattle.table.specs.Table.{row, view, soundTable, marked}
-use Rattle.table.specs.declared.mark.Mark.the-variants.{Cookie, Document}
-use Rattle.table.specs.Laws.Asked.{live-used}
+use Rattle.fields.specs.Table.{row, view, soundTable, marked}
+use Rattle.fields.specs.declared.mark.Mark.the-variants.{Cookie, Document}
+use Rattle.fields.specs.Laws.Asked.{live-used}
 use Rattle.rules.specs.Rule.Call.{step, start, table, actions, left}
 use Rattle.rules.specs.Rule.Ids.{tabLive, processLive, Addressed}
-use Rattle.rules.specs.Rules.{framed, Outcome}
-use Rattle.rules.specs.Laws.Happens.{TabAt, processAt, Happens, nothing, joins, renews, selects, leaves, ends, types}
+use Rattle.rules.specs.Sheet.{framed, Outcome}
+use Rattle.rules.specs.Laws.Happens.{TabAt, Happens, nothing, joins, renews, selects, leaves, ends, types}
+use Rattle.rules.specs.Rule.Desk.{processAt}
 use Rattle.rules.specs.Laws.Happens.{points, paints, sockets, fetches, stores, gets, denies, results, documents}
 use Rattle.rules.specs.Laws.Happens.{refused-is, at-live}
 use Rattle.rules.specs.Time.Induct.{history-sound, Each}
 use Rattle.rules.specs.Time.Rows.{marked-rows}
 use Rattle.rules.specs.Time.Moves.{idle}
-use Rattle.rules.specs.Time.Live.{tab-live, picked-same, marked-same, unmarked-same, opened-turns}
+use Rattle.rules.specs.Time.Live.{tab-live, picked-same, marked-same, unmarked-same, opened-flips}
 use Rattle.rules.specs.Time.Running.{number-live, rows-same}
 use Rattle.rules.specs.Time.TabMoves.{TabAhead, tab-moves}
 use Rattle.rules.specs.Time.ProcessMoves.{ProcessAhead, process-moves}
@@ -36,10 +37,10 @@ to-tab {i = i} w same h = tab h (tab-live w) (same i ∙ tab-live w)
 pub step-to : {t b e : List ℕ} {x : Outcome} → soundTable t ≡ true → Happens t b e x → Every (To t (x .table)) (x .actions)
 step-to {t = t} z (nothing n h) = rw (refused-is n t) none
 step-to {t = t} {e = e} z (joins s o h) =
-    let w = opened-turns t s (drop 10 e) (o .takes) in
+    let w = opened-flips t s (drop 10 e) (o .takes) in
     more (host refl) (more (begun (w .before) (w .after)) (more screen none))
 step-to {t = t} {e = e} z (renews s o h) =
-    let w = opened-turns t s (drop 10 e) (o .takes) in
+    let w = opened-flips t s (drop 10 e) (o .takes) in
     more (host refl) (more (host refl) (more (begun (w .before) (w .after)) (more screen none)))
 step-to z (selects s k i f h w) = more (to-tab w (picked-same (at-live z w)) refl) (more screen none)
 step-to z (leaves s i f h w y g) = more (host refl) (more screen none)
@@ -55,8 +56,8 @@ step-to {t = t} z (gets i s k domain f w h g) =
     let same = rows-same t (marked t s k Cookie) (marked-rows t s k Cookie (at-live z w) g .rows) in
     more (process (process-live z w) (same (processAt t s k) ∙ process-live z w)) none
 step-to z (denies tag i s k f w) = more (to-tab w (λ j. refl) refl) none
-step-to z (results n i s k y f w q g) = more (to-tab w (unmarked-same _ (at-live z w)) refl) none
-step-to z (documents i s k y f w g) = more (to-tab w (unmarked-same _ (at-live z w)) refl) none
+step-to z (results n i s k y f w q g) = more (to-tab w (unmarked-same _ (at-live z w) g) refl) none
+step-to z (documents i s k y f w g) = more (to-tab w (unmarked-same _ (at-live z w) g) refl) none
 
 pub addressed : Each (λ book earlier c. Addressed c)
 unfolding table left actions

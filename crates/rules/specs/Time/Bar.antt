@@ -9,18 +9,19 @@ use native.Mathlib.Omega.{arith}
 use lib.ListN.{drop}
 use lib.Dec.{eqb}
 use borrow.Author.Tests.{eq-eqb, ne-eqb}
-use Rattle.names.specs.Names.{folded}
-use Rattle.names.specs.Laws.Bools.{Range}
-use Rattle.table.specs.Table.{selected, view, live, freeSlot, Openable, Closable, TabLive, opened, picked, closed}
-use Rattle.table.specs.Laws.Each.{same-or}
-use Rattle.table.specs.Laws.There.{live-there}
-use Rattle.table.specs.Laws.Table.{table-facts}
-use Rattle.table.specs.Laws.Fresh.{fresh-fields}
+use Rattle.terms.specs.Names.{folded}
+use Rattle.terms.specs.Base.{Range}
+use Rattle.fields.specs.Table.{selected, view, live, freeSlot, Openable, Closable, TabLive, opened, picked, closed}
+use Rattle.fields.specs.Laws.Each.{same-or}
+use Rattle.fields.specs.Laws.There.{live-there}
+use Rattle.fields.specs.Laws.Table.{table-facts}
+use Rattle.fields.specs.Laws.Fresh.{fresh-fields}
 use Rattle.rules.specs.Rule.Call.{Call, step, actions, isFrame, carried, latest, typed}
 use Rattle.rules.specs.Rule.History.{History}
 use Rattle.rules.specs.Rule.Quark.{Bar}
-use Rattle.rules.specs.Rules.{Outcome}
-use Rattle.rules.specs.Laws.Happens.{idAt, suffixAt, Happens, nothing, joins, renews, selects, leaves, ends, types}
+use Rattle.rules.specs.Sheet.{Outcome}
+use Rattle.rules.specs.Laws.Happens.{Happens, nothing, joins, renews, selects, leaves, ends, types}
+use Rattle.rules.specs.Rule.Desk.{idAt, suffixAt}
 use Rattle.rules.specs.Laws.Happens.{points, paints, sockets, fetches, stores, gets, denies, results, documents}
 use Rattle.rules.specs.Laws.Happens.{refused-is, at-live}
 use Rattle.rules.specs.Time.Induct.{induct, history-sound}

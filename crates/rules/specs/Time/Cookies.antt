@@ -8,9 +8,10 @@ use lib.Dec.{eqb}
 use Rattle.rules.specs.Rule.Call.{Call, step, start, event, actions, idOf, isFrame, sends, carried}
 use Rattle.rules.specs.Rule.History.{History}
 use Rattle.rules.specs.Rule.Quark.{Requests, Cookies}
-use Rattle.rules.specs.Rules.{Outcome}
+use Rattle.rules.specs.Sheet.{Outcome}
 use Rattle.rules.specs.Laws.Allow.{cookie-inside}
-use Rattle.rules.specs.Laws.Happens.{processAt, suffixAt, Happens, refused-is, nothing, joins, renews, selects, leaves}
+use Rattle.rules.specs.Laws.Happens.{Happens, refused-is, nothing, joins, renews, selects, leaves}
+use Rattle.rules.specs.Rule.Desk.{processAt, suffixAt}
 use Rattle.rules.specs.Laws.Happens.{ends, types, points, paints, sockets, fetches, stores, gets, denies, results}
 use Rattle.rules.specs.Laws.Happens.{documents}
 use Rattle.rules.specs.Time.Induct.{Each, each-call}

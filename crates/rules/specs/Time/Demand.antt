@@ -5,19 +5,19 @@ use mathlib.Core.Bool.{false≢true}
 use mathlib.Core.Logic.{_≢_, ⊎-elim}
 use mathlib.Core.List.{List}
 use native.Mathlib.Omega.{arith}
-use Rattle.names.specs.Names.{folded}
-use Rattle.names.specs.Laws.Order.{owner-apart}
-use Rattle.table.specs.Table.{owner, view}
-use Rattle.table.specs.Promises as table
-use Rattle.table.specs.Laws.Each.{same-or, less}
-use Rattle.table.specs.Laws.Rows.{Pair, pair-of}
-use Rattle.table.specs.Laws.There.{used-there}
-use Rattle.table.specs.Laws.Asked.{live-used}
-use Rattle.table.specs.Laws.Table.{SoundTable, table-facts}
+use Rattle.terms.specs.Names.{folded}
+use Rattle.terms.specs.Laws.Order.{owner-apart}
+use Rattle.fields.specs.Table.{owner, view}
+use Rattle.fields.specs.Promises as table
+use Rattle.fields.specs.Laws.Each.{same-or, less}
+use Rattle.fields.specs.Laws.Rows.{Pair, pair-of}
+use Rattle.fields.specs.Laws.There.{used-there}
+use Rattle.fields.specs.Laws.Asked.{live-used}
+use Rattle.fields.specs.Laws.Table.{SoundTable, table-facts}
 use Rattle.rules.specs.Rule.Call.{Call}
 use Rattle.rules.specs.Rule.History.{History}
 use Rattle.rules.specs.Rule.Demand.{Hangs, Counts, Some, Apart, Room, Taken, Startable, BookAlone, Desks}
-use Rattle.rules.specs.Rules.{Outcome}
+use Rattle.rules.specs.Sheet.{Outcome}
 use Rattle.rules.specs.Laws.Start.{start-starts}
 use Rattle.rules.specs.Laws.Happened.{step-happens}
 use Rattle.rules.specs.Laws.Happens.{Happens, nothing, joins, renews, selects, leaves, ends, types, points, paints}
@@ -87,7 +87,7 @@ module _ {book : List ℕ} {cs : List Call} {t : List ℕ} (h : History book cs 
   some-tab p l = facts .shows .some-tab p (used-there t p l) l
 
   pub row-left : Room t
-  row-left s r f = table.row-left t s (record { sound = history-sound h; seat = r; slot = f })
+  row-left s r f = table.row-for-slot t s (record { sound = history-sound h; seat = r; slot = f })
 
   -- ---- calls
 

@@ -7,13 +7,14 @@ use mathlib.Core.List.{List}
 use native.Mathlib.Omega.{arith}
 use lib.Dec.{eqb}
 use borrow.Author.Tests.{eqb-true, eq-eqb}
-use Rattle.table.specs.Table.{selected, view}
-use Rattle.table.specs.Laws.There.{live-there}
+use Rattle.fields.specs.Table.{selected, view}
+use Rattle.fields.specs.Laws.There.{live-there}
 use Rattle.rules.specs.Rule.Call.{Call, step, actions, event, table, partyOf, idOf, isFrame, sends, carried}
 use Rattle.rules.specs.Rule.History.{History}
 use Rattle.rules.specs.Rule.Quark.{Display, Sockets, Socketed, Painted}
-use Rattle.rules.specs.Rules.{Outcome}
-use Rattle.rules.specs.Laws.Happens.{idAt, suffixAt, Happens, nothing, joins, renews, selects, leaves, ends, types}
+use Rattle.rules.specs.Sheet.{Outcome}
+use Rattle.rules.specs.Laws.Happens.{Happens, nothing, joins, renews, selects, leaves, ends, types}
+use Rattle.rules.specs.Rule.Desk.{idAt, suffixAt}
 use Rattle.rules.specs.Laws.Happens.{points, paints, sockets, fetches, stores, gets, denies, results, documents}
 use Rattle.rules.specs.Laws.Happens.{refused-is}
 use Rattle.rules.specs.Laws.Allow.{socket-inside}

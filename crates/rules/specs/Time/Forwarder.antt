@@ -8,24 +8,25 @@ use mathlib.Core.List.{List, [], _∷_}
 use native.Mathlib.Omega.{arith}
 use lib.ListN.{length}
 use borrow.Author.Tests.{ne-eqb}
-use Rattle.names.specs.Names.{orders, lettingOf, tenantOf}
-use Rattle.names.specs.Text as Text
-use Rattle.names.specs.Forwarder.{forwarder, forwarder-sound, Typed}
-use Rattle.names.specs.Laws.Bools.{Range, fails}
-use Rattle.table.specs.Table.{tenant, opens, mostOpens, tableBytes, view, live, liveTabs, Openable, TabLive, fresh, opened}
-use Rattle.table.specs.Table.{waits, marked}
-use Rattle.table.specs.declared.mark.Mark.{Mark}
-use Rattle.table.specs.Laws.Sound.{zero-free}
-use Rattle.table.specs.Laws.Fresh.{fresh-tenant, fresh-fields}
-use Rattle.table.specs.Laws.First.{first-left, first-slot}
-use Rattle.table.specs.Laws.Can.{first-serial}
+use Rattle.terms.specs.Names.{orders, lettingOf, tenantOf}
+use Rattle.terms.specs.Text as Text
+use Rattle.terms.specs.Forwarder.{forwarder, forwarder-sound, Typed}
+use Rattle.terms.specs.Laws.Bools.{fails}
+use Rattle.terms.specs.Base.{Range}
+use Rattle.fields.specs.Table.{tenant, opens, mostOpens, tableBytes, view, live, liveTabs, Openable, TabLive, fresh, opened}
+use Rattle.fields.specs.Table.{waits, marked}
+use Rattle.fields.specs.declared.mark.Mark.{Mark}
+use Rattle.fields.specs.Laws.Sound.{zero-free}
+use Rattle.fields.specs.Laws.Fresh.{fresh-tenant, fresh-fields}
+use Rattle.fields.specs.Laws.First.{first-left, first-slot}
+use Rattle.fields.specs.Laws.Can.{first-serial}
 use Rattle.rules.specs.Rule.Call.{Call, step}
 use Rattle.rules.specs.Rule.History.{History, started, stepped}
-use Rattle.rules.specs.Rules.{Outcome, framed, bytes, frames, over, answer, roomNeeded, stepOf, startOf, Started}
+use Rattle.rules.specs.Sheet.{Outcome, framed, bytes, frames, over, answer, roomNeeded, stepOf, startOf, Started}
 use Rattle.rules.specs.Laws.Open.{openable}
-use Rattle.rules.specs.Laws.Happens.{suffixAt}
+use Rattle.rules.specs.Rule.Desk.{suffixAt}
 use Rattle.rules.specs.Laws.Forward.{start-does, acceptable-of, open-frame}
-use Rattle.rules.specs.Promises.Step.{start-answer}
+use Rattle.rules.specs.Laws.Start.{start-reads}
 use Rattle.rules.specs.Time.Induct.{history-sound}
 use Rattle.rules.specs.Time.Rows.{opened-heads, marked-rows}
 use Rattle.rules.specs.Time.Same.{stays-live}
@@ -46,7 +47,7 @@ begun lent h =
     = record { says = refl; table = sym (ap (λ (x : Outcome). x .table) d) } in
     record {
       calls = [];
-      history = started lent forwarder w (start-answer lent forwarder w ∙ ap (λ (x : Outcome). x .number) d);
+      history = started lent forwarder w (start-reads lent forwarder w ∙ ap (λ (x : Outcome). x .number) d);
     }
 
 -- a step with an event, in any room

@@ -6,24 +6,17 @@ use mathlib.Core.Bool.{true}
 use mathlib.Core.Logic.{_≢_}
 use mathlib.Core.List.{List, [], _∷_}
 use lib.ListN.{length}
-use Rattle.names.specs.Names.{soundBook}
-use Rattle.table.specs.Table.{soundTable, fresh}
+use Rattle.terms.specs.Names.{soundBook}
+use Rattle.fields.specs.Table.{soundTable, fresh}
 use Rattle.rules.specs.Rule.Call.{Call, step, start, Past, newest, older}
 use Rattle.rules.specs.Rule.History.{History, started, stepped, unstarted}
-use Rattle.rules.specs.Rules.{Outcome, stepOf, startOf, Started}
-use Rattle.rules.specs.Laws.Start.{start-starts}
+use Rattle.rules.specs.Sheet.{Outcome, stepOf, startOf}
+use Rattle.rules.specs.Laws.Start.{start-starts, start-done, start-kept}
+use Rattle.rules.specs.Laws.Outcome.{step-orderly}
 use Rattle.rules.specs.Laws.Happens.{Happens}
 use Rattle.rules.specs.Laws.Happened.{step-happens}
-use Rattle.rules.specs.Promises.Step.{start-answer, start-refused, start-sound, step-sound}
 
 -- ---- what each call leaves
-
--- an accepted start has the number 0, a refused one another
-start-done : (t b : List ℕ) {u : List ℕ} {r : ℕ} → Started (startOf t b) u r → r ≡ 0 → startOf t b .number ≡ 0
-start-done t b w z = sym (start-answer t b w) ∙ z
-
-start-same : (t b : List ℕ) {u : List ℕ} {r : ℕ} → Started (startOf t b) u r → r ≢ 0 → t ≡ u
-start-same t b w h = sym (start-refused t b w (λ z. h (start-answer t b w ∙ z)))
 
 -- the book of a history is sound, and so is its table
 pub history-book : {book : List ℕ} {cs : List Call} {t : List ℕ} → History book cs t → soundBook book ≡ true
@@ -32,10 +25,10 @@ history-book (stepped h b e w) = history-book h
 history-book (unstarted h b w f) = history-book h
 
 pub history-sound : {book : List ℕ} {cs : List Call} {t : List ℕ} → History book cs t → soundTable t ≡ true
-history-sound (started t b w z) = rw (w .table) (start-sound t b (start-done t b w z))
-history-sound (stepped {t = t} h b e {o = o} w) = rw (w .table) (step-sound (length o) t b e (history-sound h))
+history-sound (started t b w z) = rw (w .table) (start-starts t b .sound (start-done t b w z))
+history-sound (stepped {t = t} h b e {o = o} w) = rw (w .table) (step-orderly t b e (length o) .sound (history-sound h))
 history-sound (unstarted {t = t} h b w f) =
-    subst (λ (x : List ℕ). soundTable x ≡ true) (start-same t b w f) (history-sound h)
+    subst (λ (x : List ℕ). soundTable x ≡ true) (sym (start-kept t b w f)) (history-sound h)
 
 -- ---- induction
 
@@ -58,7 +51,7 @@ induct P k (stepped {book = book} {cs = cs} {t = t} h b e {o = o} {r = r} w) =
     subst (λ (u : List ℕ). P book (step t b e (length o) r (x .actions) u ∷ cs) u) (sym (w .table))
     (k .step! b e (length o) r h (induct P k h) (step-happens (length o) t b e (history-sound h)))
 induct P k (unstarted {book = book} {cs = cs} {t = t} h b {r = r} w f) =
-    subst (λ (u : List ℕ). P book (start t b r u ∷ cs) u) (start-same t b w f) (k .start! h (induct P k h) b r)
+    subst (λ (u : List ℕ). P book (start t b r u ∷ cs) u) (sym (start-kept t b w f)) (k .start! h (induct P k h) b r)
 
 -- ---- every call
 
@@ -79,5 +72,5 @@ each-call Q k (stepped {book = book} {cs = cs} {t = t} h b e {o = o} {r = r} w) 
     (k .step! b e (length o) r h (step-happens (length o) t b e (history-sound h)))
 each-call Q k (stepped h b e w) c earlier (older d p) = each-call Q k h c earlier p
 each-call Q k (unstarted {book = book} {cs = cs} {t = t} h b {r = r} w f) c earlier newest =
-    subst (λ (u : List ℕ). Q book cs (start t b r u)) (start-same t b w f) (k .start! h b r)
+    subst (λ (u : List ℕ). Q book cs (start t b r u)) (sym (start-kept t b w f)) (k .start! h b r)
 each-call Q k (unstarted h b w f) c earlier (older d p) = each-call Q k h c earlier p

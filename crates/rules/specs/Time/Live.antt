@@ -5,27 +5,28 @@ use mathlib.Core.Path.{_≡_, refl, sym, ap₂, subst, _∙_}
 use mathlib.Core.Bool.{true, false, false≢true}
 use mathlib.Core.Logic.{_≢_, _⊎_, ⊎-elim}
 use mathlib.Core.List.{List}
-use Rattle.names.specs.Names.{soundBook}
-use Rattle.names.specs.Laws.Bools.{agree, fails}
-use Rattle.table.specs.Table.{selected, view, tabId, soundTable, live, tabOf, freeSlot, Openable, Closable, TabLive, opened}
-use Rattle.table.specs.Table.{picked, closed, waits, marked, unmarked, fresh}
-use Rattle.table.specs.declared.mark.Mark.{Mark}
-use Rattle.table.specs.declared.find.Place.{Place}
-use Rattle.table.specs.declared.find.Place.the-variants.{Nowhere, At}
-use Rattle.table.specs.Laws.Sound.{zero-free}
-use Rattle.table.specs.Laws.There.{live-there}
-use Rattle.table.specs.Laws.Table.{table-facts}
-use Rattle.table.specs.Laws.Tab.{tab-of, tab-found, id-whole}
-use Rattle.table.specs.Laws.Fresh.{fresh-fields}
-use Rattle.table.specs.Promises.{open-sound, pick-sound, close-sound, mark-sound, unmark-sound}
+use Rattle.terms.specs.Names.{soundBook}
+use Rattle.terms.specs.Laws.Bools.{agree, fails}
+use Rattle.fields.specs.Table.{selected, view, tabId, soundTable, live, tabOf, freeSlot, Openable, Closable, TabLive, opened}
+use Rattle.fields.specs.Table.{picked, closed, waits, marked, unmarked, fresh}
+use Rattle.fields.specs.declared.mark.Mark.{Mark}
+use Rattle.fields.specs.declared.place.Place.{Place}
+use Rattle.fields.specs.declared.place.Place.the-variants.{Nowhere, At}
+use Rattle.fields.specs.Laws.Sound.{zero-free}
+use Rattle.fields.specs.Laws.There.{live-there}
+use Rattle.fields.specs.Laws.Table.{table-facts}
+use Rattle.fields.specs.Laws.Tab.{tab-of, tab-found, id-whole}
+use Rattle.fields.specs.Laws.Fresh.{fresh-fields}
+use Rattle.fields.specs.Promises.{open-sound, pick-sound, close-sound, mark-sound, unmark-sound}
 use Rattle.rules.specs.Rule.Ids.{isAt, tabLive}
-use Rattle.rules.specs.Inner.{newId}
-use Rattle.rules.specs.Laws.Happens.{TabAt, idAt}
+use Rattle.rules.specs.Sheet.{newId}
+use Rattle.rules.specs.Laws.Happens.{TabAt}
+use Rattle.rules.specs.Rule.Desk.{idAt}
 use Rattle.rules.specs.Time.Same.{stays-live, here-or}
 use Rattle.rules.specs.Time.Tabs.{id-apart, id-new, Stays, Still, opened-new, opened-tab, opened-keeps, closed-gone}
 use Rattle.rules.specs.Time.Tabs.{closed-tab, closed-keeps, picked-still}
 use Rattle.rules.specs.Time.Marks.{marked-marks, unmarked-marks}
-use Rattle.rules.specs.Time.Moves.{Turns}
+use Rattle.rules.specs.Time.Moves.{Flips}
 
 -- ---- ids and tabs
 
@@ -89,10 +90,10 @@ pub marked-same : {t : List ℕ} {s k : ℕ} (m : Mark) → TabLive t s k → wa
 marked-same {t} {s} {k} m w e =
     still-same t (marked t s k m) (w .sound) (mark-sound t s k m w e) (marked-marks t s k m w e .still)
 
-pub unmarked-same : {t : List ℕ} {s k : ℕ} (m : Mark) → TabLive t s k
+pub unmarked-same : {t : List ℕ} {s k : ℕ} (m : Mark) → TabLive t s k → waits (view t) s k m ≡ true
     → (i : ℕ) → tabLive (unmarked t s k m) i ≡ tabLive t i
-unmarked-same {t} {s} {k} m w =
-    still-same t (unmarked t s k m) (w .sound) (unmark-sound t s k m w) (unmarked-marks t s k m w .still)
+unmarked-same {t} {s} {k} m w e =
+    still-same t (unmarked t s k m) (w .sound) (unmark-sound t s k m w e) (unmarked-marks t s k m w .still)
 
 -- ---- a fresh table
 
@@ -116,8 +117,8 @@ module _ (t : List ℕ) (s : ℕ) (x : List ℕ) (w : Openable t s x) where
       (λ (z : Stays t (opened t s x) r j). z)
       (opened-tab t s x w r j l)
 
-  pub opened-turns : Turns tabLive t (opened t s x) (newId (view t) s) false true
-  opened-turns =
+  pub opened-flips : Flips tabLive t (opened t s x) (newId (view t) s) false true
+  opened-flips =
       let u = opened t s x in
       let new = opened-new t s x w in
       let f = open-sound t s x w in
@@ -147,8 +148,8 @@ module _ (t : List ℕ) (s i : ℕ) (w : Closable t s) (here : TabAt t i s (view
       (sym (y .id=) ∙ z .id ∙ sym (here .id)) in
       false≢true (sym (closed-gone t s w) ∙ sym (ap₂ (live (view u)) (q .0) (q .1)) ∙ z .there)
 
-  pub closed-turns : Turns tabLive t (closed t s) i true false
-  closed-turns =
+  pub closed-flips : Flips tabLive t (closed t s) i true false
+  closed-flips =
       record {
         before = tab-live here;
         after = fails (tabLive (closed t s) i) closed-dead;

@@ -4,12 +4,12 @@ use mathlib.Core.Path.{_≡_, sym, subst}
 use mathlib.Core.Bool.{Bool, true, false}
 use mathlib.Core.Logic.{_≢_, _⊎_}
 use mathlib.Core.List.{List}
-use Rattle.table.specs.Table.{selected, view, TabLive, waits, marked, unmarked}
-use Rattle.table.specs.declared.mark.Mark.{Mark}
-use Rattle.table.specs.Laws.Asked.{waits-most}
-use Rattle.table.specs.Laws.Quiet.{Quiet}
-use Rattle.table.specs.Laws.Waited.{marked-quiet, marked-is, marked-selected, unmarked-quiet, unmarked-is, unmarked-selected}
-use Rattle.table.specs.Laws.Marks.{other, mark-set, mark-gone}
+use Rattle.fields.specs.Table.{selected, view, TabLive, waits, marked, unmarked}
+use Rattle.fields.specs.declared.mark.Mark.{Mark}
+use Rattle.fields.specs.Laws.Asked.{waits-most}
+use Rattle.fields.specs.Laws.Quiet.{Quiet}
+use Rattle.fields.specs.Laws.Waited.{marked-quiet, marked-is, marked-selected, unmarked-quiet, unmarked-is, unmarked-selected}
+use Rattle.fields.specs.Laws.Marks.{other, mark-set, mark-gone}
 use Rattle.rules.specs.Time.Rows.{RowsStay, marked-rows, unmarked-rows}
 use Rattle.rules.specs.Time.Same.{other-is, waits-still, quiet-still, Waits, Still}
 

@@ -8,13 +8,13 @@ use mathlib.Core.List.{List, [], _∷_}
 use native.Mathlib.Omega.{arith}
 use lib.Dec.{eqb}
 use borrow.Author.Tests.{eq-eqb, ne-eqb}
-use Rattle.table.specs.Base.{one}
-use Rattle.table.specs.Laws.Each.{same-or}
+use Rattle.fields.specs.Base.{one}
+use Rattle.fields.specs.Laws.Each.{same-or}
 use Rattle.rules.specs.Rule.Call.{Call, table, actions, left, isFrame, sends, among, times}
-use Rattle.rules.specs.Rules.{Frame}
+use Rattle.rules.specs.Sheet.{Frame}
 
 -- a test of one id turns from a to b, and of no other
-pub record Turns (alive : List ℕ → ℕ → Bool) (t u : List ℕ) (j : ℕ) (a b : Bool) : Type 0 where
+pub record Flips (alive : List ℕ → ℕ → Bool) (t u : List ℕ) (j : ℕ) (a b : Bool) : Type 0 where
   pub before : alive t j ≡ a
   pub after : alive u j ≡ b
   pub others : (i : ℕ) → i ≢ j → alive u i ≡ alive t i
@@ -40,7 +40,7 @@ one-other j i h = ap one (ne-eqb j i h)
 
 -- what turns is counted
 module _ (alive : List ℕ → ℕ → Bool) (t u : List ℕ) (j : ℕ) where
-  turn-up : Turns alive t u j false true → (i : ℕ) → one (alive u i) ≡ one (alive t i) + one (eqb j i)
+  turn-up : Flips alive t u j false true → (i : ℕ) → one (alive u i) ≡ one (alive t i) + one (eqb j i)
   unfolding one
   turn-up w i =
       ⊎-elim
@@ -52,7 +52,7 @@ module _ (alive : List ℕ → ℕ → Bool) (t u : List ℕ) (j : ℕ) where
       (λ (h : j ≢ i). let y = one-other j i h in let z = ap one (w .others i (λ e. h (sym e))) in omega arith)
       (same-or j i)
 
-  turn-back : Turns alive t u j true false → Turns alive u t j false true
+  turn-back : Flips alive t u j true false → Flips alive u t j false true
   turn-back w = record { before = w .after; after = w .before; others = λ i h. sym (w .others i h) }
 
 -- alive: which ids are live; ahead: which are still to be given; a, b: the tags of start and stop
@@ -62,11 +62,11 @@ module _ (alive : List ℕ → ℕ → Bool) (ahead : List ℕ → ℕ → Type 
         → ((i : ℕ) → ahead u i → ahead t i)
         → Moves t u l
     comes : (j : ℕ) → ((i : ℕ) → among 5 i a l ≡ one (eqb j i)) → ((i : ℕ) → among 5 i b l ≡ 0)
-        → Turns alive t u j false true → ahead t j → (ahead u j → ⊥)
+        → Flips alive t u j false true → ahead t j → (ahead u j → ⊥)
         → ((i : ℕ) → ahead u i → ahead t i)
         → Moves t u l
     goes : (j : ℕ) → ((i : ℕ) → among 5 i a l ≡ 0) → ((i : ℕ) → among 5 i b l ≡ one (eqb j i))
-        → Turns alive t u j true false
+        → Flips alive t u j true false
         → ((i : ℕ) → ahead u i → ahead t i)
         → Moves t u l
 

@@ -4,17 +4,17 @@ use Prim.Native.Nat.{ℕ}
 use mathlib.Core.Path.{_≡_, refl, sym, ap₂, _∙_}
 use mathlib.Core.Bool.{true}
 use mathlib.Core.List.{List}
-use Rattle.names.specs.Names.{orders, lettingOf, tenantOf, separateOf, ownerOf}
-use Rattle.names.specs.Laws.Bools.{Range}
-use Rattle.names.specs.Laws.Order.{ownerBy, owner-by-is}
-use Rattle.table.specs.Table.{tenant, separate, row, owner, view, live, ownerAt}
-use Rattle.table.specs.Laws.Fresh.{fresh-tenant, fresh-separate}
-use Rattle.table.specs.Laws.Sound.{owner-at}
-use Rattle.table.specs.Laws.There.{live-there}
-use Rattle.table.specs.Laws.Table.{table-facts}
+use Rattle.terms.specs.Names.{orders, lettingOf, tenantOf, optionsOf, ownerOf, ownerBy}
+use Rattle.terms.specs.Base.{Range}
+use Rattle.terms.specs.Laws.Order.{owner-by-is}
+use Rattle.fields.specs.Table.{tenant, options, row, owner, view, live, ownerAt}
+use Rattle.fields.specs.Laws.Fresh.{fresh-tenant, fresh-options}
+use Rattle.fields.specs.Laws.Sound.{owner-at}
+use Rattle.fields.specs.Laws.There.{live-there}
+use Rattle.fields.specs.Laws.Table.{table-facts}
 use Rattle.rules.specs.Rule.Call.{Call}
 use Rattle.rules.specs.Rule.History.{History}
-use Rattle.rules.specs.Rules.{Outcome}
+use Rattle.rules.specs.Sheet.{Outcome}
 use Rattle.rules.specs.Laws.Happens.{Happens, nothing, joins, renews, selects, leaves, ends, types, points, paints}
 use Rattle.rules.specs.Laws.Happens.{sockets, fetches, stores, gets, denies, results, documents, refused-is, at-live}
 use Rattle.rules.specs.Time.Induct.{induct, history-sound}
@@ -25,17 +25,17 @@ use Rattle.rules.specs.Time.Rows.{unmarked-rows}
 
 record SameLets (t u : List ℕ) : Type 0 where
   tenant= : (s : ℕ) → view u (tenant s) ≡ view t (tenant s)
-  separate= : (s : ℕ) → view u (separate s) ≡ view t (separate s)
+  options= : (s : ℕ) → view u (options s) ≡ view t (options s)
 
 module _ {t : List ℕ} where
   lets-same : SameLets t t
-  lets-same = record { tenant= = λ s. refl; separate= = λ s. refl }
+  lets-same = record { tenant= = λ s. refl; options= = λ s. refl }
 
   lets-open : {u : List ℕ} {s : ℕ} → OpenHeads t u s → SameLets t u
-  lets-open w = record { tenant= = w .tenant=; separate= = w .separate= }
+  lets-open w = record { tenant= = w .tenant=; options= = w .options= }
 
   lets-kept : {u : List ℕ} → SameHeads t u → SameLets t u
-  lets-kept w = record { tenant= = w .tenant=; separate= = w .separate= }
+  lets-kept w = record { tenant= = w .tenant=; options= = w .options= }
 
 lets-stay : {book : List ℕ} {cs : List Call} {t b e : List ℕ} {x : Outcome} → History book cs t → Happens t b e x
     → SameLets t (x .table)
@@ -61,8 +61,8 @@ lets-stay g (documents i s k x fr a y) = lets-kept (unmarked-rows _ s k _ (at-li
 abbrev Tenants : List ℕ → List Call → List ℕ → Type 0
 Tenants book cs t = (s : ℕ) → Range 1 8 s → view t (tenant s) ≡ tenantOf (lettingOf s (orders book))
 
-abbrev Separates : List ℕ → List Call → List ℕ → Type 0
-Separates book cs t = (s : ℕ) → Range 1 8 s → view t (separate s) ≡ separateOf (lettingOf s (orders book))
+abbrev OptionsKept : List ℕ → List Call → List ℕ → Type 0
+OptionsKept book cs t = (s : ℕ) → Range 1 8 s → view t (options s) ≡ optionsOf (lettingOf s (orders book))
 
 pub history-tenant : {book : List ℕ} {cs : List Call} {t : List ℕ} → History book cs t → (s : ℕ) → Range 1 8 s
     → view t (tenant s) ≡ tenantOf (lettingOf s (orders book))
@@ -74,14 +74,14 @@ history-tenant =
       step! = λ b e n r g h w s q. lets-stay g w .tenant= s ∙ h s q;
     })
 
-pub history-separate : {book : List ℕ} {cs : List Call} {t : List ℕ} → History book cs t → (s : ℕ) → Range 1 8 s
-    → view t (separate s) ≡ separateOf (lettingOf s (orders book))
-history-separate =
-    induct Separates
+pub history-options : {book : List ℕ} {cs : List Call} {t : List ℕ} → History book cs t → (s : ℕ) → Range 1 8 s
+    → view t (options s) ≡ optionsOf (lettingOf s (orders book))
+history-options =
+    induct OptionsKept
     (record {
-      fresh! = λ book e s r. fresh-separate book e s r;
+      fresh! = λ book e s r. fresh-options book e s r;
       start! = λ g h b r. h;
-      step! = λ b e n r g h w s q. lets-stay g w .separate= s ∙ h s q;
+      step! = λ b e n r g h w s q. lets-stay g w .options= s ∙ h s q;
     })
 
 -- ---- owners
@@ -89,7 +89,7 @@ history-separate =
 module _ {book : List ℕ} {cs : List Call} {t : List ℕ} (h : History book cs t) where
   pub history-owner : (s : ℕ) → Range 1 8 s → ownerAt (view t) s ≡ ownerBy book s
   history-owner s r =
-      owner-at (view t) s ∙ ap₂ (λ (a b : ℕ). ownerOf s a b) (history-tenant h s r) (history-separate h s r)
+      owner-at (view t) s ∙ ap₂ (λ (a b : ℕ). ownerOf s a b) (history-tenant h s r) (history-options h s r)
       ∙ sym (owner-by-is book s)
 
   -- the process of a live tab has the owner that the order form gives the tab's desk

@@ -8,12 +8,12 @@ use native.Mathlib.Omega.{arith}
 use lib.ListN.{getD}
 use lib.Dec.{eqb}
 use borrow.Author.Tests.{eq-eqb, ne-eqb}
-use Rattle.table.specs.Table.{num}
-use Rattle.table.specs.declared.mark.Mark.{Mark}
-use Rattle.table.specs.declared.mark.Mark.the-variants.{Cookie, Document}
+use Rattle.terms.specs.Names.{num}
+use Rattle.fields.specs.declared.mark.Mark.{Mark}
+use Rattle.fields.specs.declared.mark.Mark.the-variants.{Cookie, Document}
 use Rattle.rules.specs.Rule.Call.{Call, step, event, actions, partyOf, tagOf, idOf, isFrame, sends, reaches, asks}
 use Rattle.rules.specs.Rule.Call.{pending}
-use Rattle.rules.specs.Rules.{Frame, framed}
+use Rattle.rules.specs.Sheet.{Frame, framed}
 use Rattle.rules.specs.Laws.Happens.{From}
 
 -- the tag of the event that asks, the party that it goes on to, the tag of the action that brings it
@@ -86,7 +86,7 @@ module _ (cs : List Call) (t b e : List ℕ) (n r : ℕ) (l : List Frame) (u : L
 -- ---- a call that asks, and one that brings
 
 -- after this call it is so with this tab and this mark, and with any other as before
-pub record Turns (now : Bool) (m : Mark) (i : ℕ) (cs : List Call) (c : Call) : Type 0 where
+pub record MarkTurns (now : Bool) (m : Mark) (i : ℕ) (cs : List Call) (c : Call) : Type 0 where
   pub this : due m (c ∷ cs) i ≡ now
   pub rest : (o : Mark) (j : ℕ) → (o ≢ m) ⊎ (j ≢ i) → due o (c ∷ cs) j ≡ due o cs j
 
@@ -114,7 +114,7 @@ module _ (cs : List Call) (t b e : List ℕ) (n r : ℕ) (u : List ℕ) where
     asks-rest Document f Document j h =
         idle cs _ Document j refl (asks-another cs t b e n r (framed 4 to tag x ∷ []) u f 4 j (other-tab Document h))
 
-    pub asked : (m : Mark) {i : ℕ} → From e 2 (asking m) i → Turns true m i cs (with (framed (going m) to tag x))
+    pub asked : (m : Mark) {i : ℕ} → From e 2 (asking m) i → MarkTurns true m i cs (with (framed (going m) to tag x))
     asked m f = record { this = asks-now m f; rest = asks-rest m f }
 
   module _ (i : ℕ) (x : List ℕ) where
@@ -132,7 +132,7 @@ module _ (cs : List Call) (t b e : List ℕ) (n r : ℕ) (u : List ℕ) where
     comes-rest Document Document j h =
         idle cs _ Document j (rw (ne-eqb i j (λ q. other-tab Document h (sym q)))) (unasked cs _ 3 4 j refl)
 
-    pub brought : (m : Mark) → Turns false m i cs (with (framed 2 i (coming m) x))
+    pub brought : (m : Mark) → MarkTurns false m i cs (with (framed 2 i (coming m) x))
     brought m = record { this = comes-now m; rest = comes-rest m }
 
   -- a store goes to a process and asks for nothing

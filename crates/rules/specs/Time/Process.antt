@@ -8,14 +8,14 @@ use native.Mathlib.Omega.{arith}
 use lib.ListN.{drop}
 use lib.Dec.{eqb}
 use borrow.Author.Tests.{eq-eqb, ne-eqb}
-use Rattle.names.specs.Names.{folded}
-use Rattle.table.specs.Table.{selected, row, number, owner, tabs, last, view, used, ownerAt, nameOf, Closable, closed}
-use Rattle.table.specs.Laws.Each.{same-or}
-use Rattle.table.specs.Laws.Sound.{zero-unused}
-use Rattle.table.specs.Laws.Fresh.{fresh-fields}
+use Rattle.terms.specs.Names.{folded}
+use Rattle.fields.specs.Table.{selected, row, number, owner, tabs, last, view, used, ownerAt, nameOf, Closable, closed}
+use Rattle.fields.specs.Laws.Each.{same-or}
+use Rattle.fields.specs.Laws.Sound.{zero-unused}
+use Rattle.fields.specs.Laws.Fresh.{fresh-fields}
 use Rattle.rules.specs.Rule.Call.{Call, step, start, actions, isFrame, carried, latest}
 use Rattle.rules.specs.Rule.History.{History}
-use Rattle.rules.specs.Rules.{be, Frame, Outcome}
+use Rattle.rules.specs.Sheet.{be, Frame, Outcome}
 use Rattle.rules.specs.Laws.Happens.{Happens, nothing, joins, renews, selects, leaves, ends, types, points, paints}
 use Rattle.rules.specs.Laws.Happens.{sockets, fetches, stores, gets, denies, results, documents, refused-is, at-live}
 use Rattle.rules.specs.Time.Induct.{Kept, induct, history-sound}

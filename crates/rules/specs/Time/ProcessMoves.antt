@@ -6,13 +6,14 @@ use mathlib.Core.Bool.{true}
 use mathlib.Core.List.{List}
 use native.Mathlib.Omega.{arith}
 use lib.ListN.{drop}
-use Rattle.table.specs.Base.{one}
-use Rattle.table.specs.Table.{selected, last, view, soundTable, opened, picked, closed, marked}
-use Rattle.table.specs.declared.mark.Mark.the-variants.{Cookie, Document}
+use Rattle.fields.specs.Base.{one}
+use Rattle.fields.specs.Table.{selected, last, view, soundTable, opened, picked, closed, marked}
+use Rattle.fields.specs.declared.mark.Mark.the-variants.{Cookie, Document}
 use Rattle.rules.specs.Rule.Call.{isFrame, among}
 use Rattle.rules.specs.Rule.Ids.{processLive}
-use Rattle.rules.specs.Rules.{Frame, Outcome}
-use Rattle.rules.specs.Laws.Happens.{processAt, Happens, nothing, joins, renews, selects, leaves, ends, types, points}
+use Rattle.rules.specs.Sheet.{Frame, Outcome}
+use Rattle.rules.specs.Laws.Happens.{Happens, nothing, joins, renews, selects, leaves, ends, types, points}
+use Rattle.rules.specs.Rule.Desk.{processAt}
 use Rattle.rules.specs.Laws.Happens.{paints, sockets, fetches, stores, gets, denies, results, documents, refused-is}
 use Rattle.rules.specs.Laws.Happens.{at-live}
 use Rattle.rules.specs.Time.Rows.{SameRow, joined-last, joined-rows, renewed-rows, closed-heads, left-rows, RowsStay}

@@ -7,7 +7,7 @@ use mathlib.Core.List.{List}
 use Rattle.rules.specs.Rule.Call.{Call, step, start, Past, newest, older, partyOf, tagOf}
 use Rattle.rules.specs.Rule.History.{History, stepped, unstarted}
 use Rattle.rules.specs.Rule.Quark.{Alike}
-use Rattle.rules.specs.Rules.{Frame, Outcome, roomNeeded, stepOf, answer}
+use Rattle.rules.specs.Sheet.{Frame, Outcome, roomNeeded, stepOf, answer}
 use Rattle.rules.specs.Laws.Response.{any-room, any-book}
 
 -- ---- a past step is what the rules give

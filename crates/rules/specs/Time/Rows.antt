@@ -5,24 +5,24 @@ use mathlib.Core.Bool.{true, false}
 use mathlib.Core.Logic.{_≢_, ⊎-elim}
 use mathlib.Core.List.{List}
 use native.Mathlib.Omega.{arith}
-use Rattle.names.specs.Names.{folded}
-use Rattle.table.specs.Table.{tenant, separate, selected, opens, row, number, owner, tabs, last, view, soundTable, used}
-use Rattle.table.specs.Table.{ownerAt, nameOf, processWith, freeProcess, Openable, Closable, TabLive, opened, picked, closed}
-use Rattle.table.specs.Table.{waits, marked, unmarked}
-use Rattle.table.specs.declared.mark.Mark.{Mark}
-use Rattle.table.specs.Promises.{row-left}
-use Rattle.table.specs.Laws.Each.{at-or, less, same-or}
-use Rattle.table.specs.Laws.Sound.{used-of, zero-unused}
-use Rattle.table.specs.Laws.Table.{table-facts}
-use Rattle.table.specs.Laws.There.{used-there}
-use Rattle.table.specs.Laws.Asked.{open-slot}
-use Rattle.table.specs.Laws.Find.{free-process}
-use Rattle.table.specs.Laws.Seats.{Changed}
-use Rattle.table.specs.Laws.Rows.{SameRow as KeptRow, used=, name=}
-use Rattle.table.specs.Laws.Quiet.{Quiet}
-use Rattle.table.specs.Laws.Opened.{opened-joins, opened-renews}
-use Rattle.table.specs.Laws.Closed.{closed-leaves, closed-ends}
-use Rattle.table.specs.Laws.Waited.{picked-quiet, marked-quiet, unmarked-quiet}
+use Rattle.terms.specs.Names.{folded}
+use Rattle.fields.specs.Table.{tenant, options, selected, opens, row, number, owner, tabs, last, view, soundTable, used}
+use Rattle.fields.specs.Table.{ownerAt, nameOf, processWith, freeProcess, Openable, Closable, TabLive, opened, picked, closed}
+use Rattle.fields.specs.Table.{waits, marked, unmarked}
+use Rattle.fields.specs.declared.mark.Mark.{Mark}
+use Rattle.fields.specs.Promises.{row-for-slot}
+use Rattle.fields.specs.Laws.Each.{at-or, less, same-or}
+use Rattle.fields.specs.Laws.Sound.{used-of, zero-unused}
+use Rattle.fields.specs.Laws.Table.{table-facts}
+use Rattle.fields.specs.Laws.There.{used-there}
+use Rattle.fields.specs.Laws.Asked.{open-slot}
+use Rattle.fields.specs.Laws.Find.{free-process}
+use Rattle.fields.specs.Laws.Seats.{Changed}
+use Rattle.fields.specs.Laws.Rows.{KeptRow, used=, name=}
+use Rattle.fields.specs.Laws.Quiet.{Quiet}
+use Rattle.fields.specs.Laws.Opened.{opened-joins, opened-renews}
+use Rattle.fields.specs.Laws.Closed.{closed-leaves, closed-ends}
+use Rattle.fields.specs.Laws.Waited.{picked-quiet, marked-quiet, unmarked-quiet}
 
 -- a process row that is as it was, but perhaps for its count
 pub record SameRow (t u : List ℕ) (p : ℕ) : Type 0 where
@@ -44,7 +44,7 @@ same-row {t} {u} {p} w =
 -- letting, opens and last number as they were
 pub record SameHeads (t u : List ℕ) : Type 0 where
   pub tenant= : (r : ℕ) → view u (tenant r) ≡ view t (tenant r)
-  pub separate= : (r : ℕ) → view u (separate r) ≡ view t (separate r)
+  pub options= : (r : ℕ) → view u (options r) ≡ view t (options r)
   pub opens= : (r : ℕ) → view u (opens r) ≡ view t (opens r)
   pub last= : view u last ≡ view t last
 
@@ -69,13 +69,13 @@ number-fits t p e u = table-facts t e .shows .numbers-fit p (used-there t p u)
 
 pub record OpenHeads (t u : List ℕ) (s : ℕ) : Type 0 where
   pub tenant= : (r : ℕ) → view u (tenant r) ≡ view t (tenant r)
-  pub separate= : (r : ℕ) → view u (separate r) ≡ view t (separate r)
+  pub options= : (r : ℕ) → view u (options r) ≡ view t (options r)
   pub opens! : view u (opens s) ≡ view t (opens s) + 1
   pub opens= : (r : ℕ) → r ≢ s → view u (opens r) ≡ view t (opens r)
 
 open-heads : {t u : List ℕ} {s k : ℕ} → Changed (view t) (view u) s k → view u (opens s) ≡ view t (opens s) + 1
     → OpenHeads t u s
-open-heads w e = record { tenant= = w .tenant=; separate= = w .separate=; opens! = e; opens= = w .opens= }
+open-heads w e = record { tenant= = w .tenant=; options= = w .options=; opens! = e; opens= = w .opens= }
 
 pub opened-heads : (t : List ℕ) (s : ℕ) (x : List ℕ) → Openable t s x → OpenHeads t (opened t s x) s
 opened-heads t s x w =
@@ -109,7 +109,7 @@ renewed-rows t s x w h =
     let a = opened-renews t s x w h in
     let p = freeProcess (view t) in
     record {
-      was-free = free-process (view t) (row-left t s (open-slot w)) .free;
+      was-free = free-process (view t) (row-for-slot t s (open-slot w)) .free;
       there = used-of (view (opened t s x)) p (λ z. let n = a .number! in omega arith);
       number! = a .number!;
       owner! = a .owner!;
@@ -127,7 +127,7 @@ same-heads : {t u : List ℕ} {s k : ℕ} → Changed (view t) (view u) s k → 
 same-heads {t} {u} {s} w e l =
     record {
       tenant= = w .tenant=;
-      separate= = w .separate=;
+      options= = w .options=;
       opens= = λ r. at-or (λ r. view u (opens r) ≡ view t (opens r)) r s e (w .opens= r);
       last= = l;
     }
@@ -147,7 +147,7 @@ module _ (t : List ℕ) (s : ℕ) (w : Closable t s) where
   -- it was its last tab
   pub ended-row : view t (tabs (view t (row s (view t (selected s))))) ≡ 1
       → used (view (closed t s)) (view t (row s (view t (selected s)))) ≡ false
-  ended-row h = zero-unused (view (closed t s)) (view t (row s (view t (selected s)))) (closed-ends t s w h .number!)
+  ended-row h = zero-unused (view (closed t s)) (view t (row s (view t (selected s)))) (closed-ends t s w h .gone-row .number0)
 
   pub ended-others : view t (tabs (view t (row s (view t (selected s))))) ≡ 1
       → (q : ℕ) → q ≢ view t (row s (view t (selected s)))

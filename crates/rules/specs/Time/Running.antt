@@ -8,18 +8,18 @@ use mathlib.Core.List.{List}
 use native.Mathlib.Omega.{arith}
 use lib.Dec.{eqb}
 use borrow.Author.Tests.{ne-eqb, eqb-false, not-true}
-use Rattle.names.specs.Names.{soundBook}
-use Rattle.names.specs.Laws.Bools.{agree, fails}
-use Rattle.table.specs.Table.{selected, row, number, tabs, last, view, soundTable, used, ownerAt, processOf, processWith}
-use Rattle.table.specs.Table.{freeProcess, Openable, Closable, opened, closed, fresh}
-use Rattle.table.specs.Laws.Sound.{zero-unused}
-use Rattle.table.specs.Laws.There.{used-there}
-use Rattle.table.specs.Laws.Asked.{live-used, selected-tab}
-use Rattle.table.specs.Laws.Find.{process-of, process-found}
-use Rattle.table.specs.Laws.Fresh.{fresh-fields}
+use Rattle.terms.specs.Names.{soundBook}
+use Rattle.terms.specs.Laws.Bools.{agree, fails}
+use Rattle.fields.specs.Table.{selected, row, number, tabs, last, view, soundTable, used, ownerAt, processOf, processWith}
+use Rattle.fields.specs.Table.{freeProcess, Openable, Closable, opened, closed, fresh}
+use Rattle.fields.specs.Laws.Sound.{zero-unused}
+use Rattle.fields.specs.Laws.There.{used-there}
+use Rattle.fields.specs.Laws.Asked.{live-used, selected-tab}
+use Rattle.fields.specs.Laws.Find.{process-of, process-found}
+use Rattle.fields.specs.Laws.Fresh.{fresh-fields}
 use Rattle.rules.specs.Rule.Ids.{processLive}
 use Rattle.rules.specs.Time.Rows.{SameRow, number-apart, number-fits, NewRow, renewed-rows, ended-row, ended-others}
-use Rattle.rules.specs.Time.Moves.{Turns}
+use Rattle.rules.specs.Time.Moves.{Flips}
 
 -- ---- numbers and rows
 
@@ -74,7 +74,7 @@ fresh-idle b e n =
 -- ---- a process begins
 
 renewed-turn : (t u : List ℕ) (s : ℕ) (x : List ℕ) (p : ℕ) → soundTable t ≡ true → NewRow t u s x p
-    → Turns processLive t u (view t last + 1) false true
+    → Flips processLive t u (view t last + 1) false true
 renewed-turn t u s x p e w =
     record {
       before =
@@ -92,7 +92,7 @@ renewed-turn t u s x p e w =
     }
 
 pub renewed-turns : (t : List ℕ) (s : ℕ) (x : List ℕ) → Openable t s x → processWith (view t) (ownerAt (view t) s) x ≡ 0
-    → Turns processLive t (opened t s x) (view t last + 1) false true
+    → Flips processLive t (opened t s x) (view t last + 1) false true
 renewed-turns t s x w z = renewed-turn t (opened t s x) s x (freeProcess (view t)) (w .sound) (renewed-rows t s x w z)
 
 -- ---- a process ends
@@ -111,7 +111,7 @@ module _ (t u : List ℕ) (p : ℕ) (e : soundTable t ≡ true) (was : used (vie
       let r = rest q d in
       d (number-apart t q p e (sym (r .used=) ∙ z .there) was (sym (r .number=) ∙ z .is))
 
-  ended-turn : Turns processLive t u (view t (number p)) true false
+  ended-turn : Flips processLive t u (view t (number p)) true false
   ended-turn =
       record {
         before = number-live t p (view t (number p)) was refl;
@@ -122,7 +122,7 @@ module _ (t u : List ℕ) (p : ℕ) (e : soundTable t ≡ true) (was : used (vie
       }
 
 pub ended-turns : (t : List ℕ) (s : ℕ) → Closable t s → view t (tabs (view t (row s (view t (selected s))))) ≡ 1
-    → Turns processLive t (closed t s) (view t (number (view t (row s (view t (selected s)))))) true false
+    → Flips processLive t (closed t s) (view t (number (view t (row s (view t (selected s)))))) true false
 ended-turns t s w z =
     ended-turn t (closed t s) (view t (row s (view t (selected s)))) (w .sound) (live-used (selected-tab w))
     (ended-row t s w z) (ended-others t s w z)

@@ -5,25 +5,25 @@ use mathlib.Core.Path.{_≡_, refl, sym, ap, _∙_}
 use mathlib.Core.Bool.{true, false≢true}
 use mathlib.Core.Logic.{_⊎_, _≢_, inl, inr, ⊎-elim}
 use mathlib.Core.List.{List}
-use Rattle.names.specs.Names.{folded}
-use Rattle.names.specs.Laws.Bools.{agree}
-use Rattle.table.specs.Table.{View, selected, opens, serial, row, waiting, number, tabs, mostOpens, view, tabId, live, used}
-use Rattle.table.specs.Table.{ownerAt, nameOf, processWith, freeSlot, Openable, Closable, opened, closed, waits}
-use Rattle.table.specs.declared.find.Place.{Place}
-use Rattle.table.specs.declared.find.Place.the-variants.{Nowhere, At}
-use Rattle.table.specs.declared.mark.Mark.{Mark}
-use Rattle.table.specs.declared.mark.Mark.the-variants.{Cookie, Document}
-use Rattle.table.specs.Laws.Each.{at-or, same-or}
-use Rattle.table.specs.Laws.Sound.{live-not, live-of}
-use Rattle.table.specs.Laws.Tab.{id-one}
-use Rattle.table.specs.Laws.Table.{table-facts}
-use Rattle.table.specs.Laws.Find.{with-name}
-use Rattle.table.specs.Laws.Seats.{Elsewhere, Changed}
-use Rattle.table.specs.Laws.Quiet.{Quiet}
-use Rattle.table.specs.Laws.Opened.{opened-joins, opened-renews}
-use Rattle.table.specs.Laws.Closed.{closed-leaves, closed-ends}
-use Rattle.table.specs.Laws.Marks.{other, waits-same}
-use Rattle.rules.specs.Laws.Happens.{idAt, processAt, suffixAt}
+use Rattle.terms.specs.Names.{folded}
+use Rattle.terms.specs.Laws.Bools.{agree}
+use Rattle.fields.specs.Table.{View, selected, opens, serial, row, waiting, number, tabs, mostOpens, view, tabId, live, used}
+use Rattle.fields.specs.Table.{ownerAt, nameOf, processWith, freeSlot, Openable, Closable, opened, closed, waits}
+use Rattle.fields.specs.declared.place.Place.{Place}
+use Rattle.fields.specs.declared.place.Place.the-variants.{Nowhere, At}
+use Rattle.fields.specs.declared.mark.Mark.{Mark}
+use Rattle.fields.specs.declared.mark.Mark.the-variants.{Cookie, Document}
+use Rattle.fields.specs.Laws.Each.{at-or, same-or}
+use Rattle.fields.specs.Laws.Sound.{live-not, live-of}
+use Rattle.fields.specs.Laws.Tab.{id-one}
+use Rattle.fields.specs.Laws.Table.{table-facts}
+use Rattle.fields.specs.Laws.Find.{with-name}
+use Rattle.fields.specs.Laws.Seats.{Elsewhere, Changed}
+use Rattle.fields.specs.Laws.Quiet.{Quiet}
+use Rattle.fields.specs.Laws.Opened.{opened-joins, opened-renews}
+use Rattle.fields.specs.Laws.Closed.{closed-leaves, closed-ends}
+use Rattle.fields.specs.Laws.Marks.{other, waits-same}
+use Rattle.rules.specs.Rule.Desk.{idAt, processAt, suffixAt}
 use Rattle.rules.specs.Time.Rows.{SameRow, RowsStay, joined-rows, renewed-rows, left-rows, ended-row, ended-others}
 
 -- ---- fields

@@ -4,12 +4,12 @@ use Prim.Native.Nat.{ℕ}
 use mathlib.Core.Path.{_≡_}
 use mathlib.Core.Bool.{Bool, true, false}
 use mathlib.Core.List.{List}
-use Rattle.names.specs.Names.{soundBook}
-use Rattle.table.specs.Table.{soundTable, fresh}
+use Rattle.terms.specs.Names.{soundBook}
+use Rattle.fields.specs.Table.{soundTable, fresh}
 use Rattle.rules.specs.Rule.Call.{Call, step, start, table, actions, left}
 use Rattle.rules.specs.Rule.History.{History}
 use Rattle.rules.specs.Rule.Ids.{tabLive, processLive}
-use Rattle.rules.specs.Rules.{Outcome}
+use Rattle.rules.specs.Sheet.{Outcome}
 use Rattle.rules.specs.Laws.Happens.{Happens}
 use Rattle.rules.specs.Time.Induct.{history-sound, Kept, induct}
 use Rattle.rules.specs.Time.Moves.{Moves, idle, Fair, fair-first, fair-next}

@@ -8,20 +8,20 @@ use mathlib.Core.List.{List}
 use native.Mathlib.Omega.{arith}
 use lib.ListN.{getD}
 use borrow.Author.Tests.{eq-eqb}
-use Rattle.names.specs.Laws.Bools.{within-in}
-use Rattle.table.specs.Table.{View, Field, tenant, separate, selected, seatZero, opens, slots, serial, row, waiting, number}
-use Rattle.table.specs.Table.{owner, tabs, size, rowZero, letter, seatsAt, rowsAt, last, view, soundTable, TabLive, waits}
-use Rattle.table.specs.Table.{marked, unmarked}
-use Rattle.table.specs.declared.mark.Mark.{Mark}
-use Rattle.table.specs.declared.mark.Mark.the-variants.{Cookie, Document}
-use Rattle.table.specs.Laws.Each.{at-or}
-use Rattle.table.specs.Laws.Quiet.{Quiet}
-use Rattle.table.specs.Laws.There.{live-there}
-use Rattle.table.specs.Laws.Waited.{marked-quiet, marked-selected, unmarked-quiet, unmarked-selected}
+use Rattle.terms.specs.Laws.Bools.{within-in}
+use Rattle.fields.specs.Table.{View, Field, tenant, options, selected, seatZero, opens, slots, serial, row, waiting, number}
+use Rattle.fields.specs.Table.{owner, tabs, size, rowZero, letter, seatsAt, rowsAt, last, view, soundTable, TabLive, waits}
+use Rattle.fields.specs.Table.{marked, unmarked}
+use Rattle.fields.specs.declared.mark.Mark.{Mark}
+use Rattle.fields.specs.declared.mark.Mark.the-variants.{Cookie, Document}
+use Rattle.fields.specs.Laws.Each.{at-or}
+use Rattle.fields.specs.Laws.Quiet.{Quiet}
+use Rattle.fields.specs.Laws.There.{live-there}
+use Rattle.fields.specs.Laws.Waited.{marked-quiet, marked-selected, unmarked-quiet, unmarked-selected}
 use Rattle.rules.specs.Rule.Call.{Call, step, table, event, left, partyOf, tagOf}
 use Rattle.rules.specs.Rule.History.{History}
 use Rattle.rules.specs.Rule.Quark.{Keys, State, OnlyWaits, control}
-use Rattle.rules.specs.Rules.{Outcome}
+use Rattle.rules.specs.Sheet.{Outcome}
 use Rattle.rules.specs.Laws.Happens.{From, Happens, nothing, joins, renews, selects, leaves, ends, types, points, paints}
 use Rattle.rules.specs.Laws.Happens.{sockets, fetches, stores, gets, denies, results, documents, refused-is, at-live}
 use Rattle.rules.specs.Time.Induct.{each-call, history-sound}
@@ -32,7 +32,7 @@ use Rattle.rules.specs.Time.Same.{everywhere, here-or}
 module _ (v u : View) (s k : ℕ) (w : Quiet v u s k) (chosen : (r : ℕ) → u (selected r) ≡ v (selected r)) where
   quiet-rest : (f : Field) → f ≢ waiting s k → u f ≡ v f
   quiet-rest (tenant r) n = w .rest .tenant= r
-  quiet-rest (separate r) n = w .rest .separate= r
+  quiet-rest (options r) n = w .rest .options= r
   quiet-rest (selected r) n = chosen r
   quiet-rest (seatZero r) n = w .rest .seatZero= r
   quiet-rest (opens r) n = at-or (λ x. u (opens x) ≡ v (opens x)) r s (w .opens=) (w .rest .opens= r)

@@ -7,18 +7,18 @@ use mathlib.Core.List.{List, _∷_}
 use lib.ListN.{drop}
 use lib.Dec.{eqb}
 use borrow.Author.Tests.{eq-eqb, ne-eqb}
-use Rattle.names.specs.Names.{folded, soundBook, under}
-use Rattle.names.specs.Laws.Fold.{folded-folded}
-use Rattle.names.specs.Laws.Under.{under-fold}
-use Rattle.table.specs.Table.{view, live, fresh, freeSlot, Openable, opened}
-use Rattle.table.specs.Laws.Sound.{zero-free}
-use Rattle.table.specs.Laws.Fresh.{fresh-fields}
+use Rattle.terms.specs.Names.{folded, soundBook, under}
+use Rattle.terms.specs.Laws.Fold.{folded-folded}
+use Rattle.terms.specs.Laws.Under.{under-fold}
+use Rattle.fields.specs.Table.{view, live, fresh, freeSlot, Openable, opened}
+use Rattle.fields.specs.Laws.Sound.{zero-free}
+use Rattle.fields.specs.Laws.Fresh.{fresh-fields}
 use Rattle.rules.specs.Rule.Call.{Call, step, start, event, actions, payloadOf, isFrame, sends, typed}
 use Rattle.rules.specs.Rule.History.{History}
 use Rattle.rules.specs.Rule.Demand.{Suffix}
-use Rattle.rules.specs.Rules.{Frame, Outcome}
-use Rattle.rules.specs.Inner.{newId}
-use Rattle.rules.specs.Laws.Happens.{idAt, suffixAt, TabAt, Happens, nothing, joins, renews, selects, leaves, ends, types}
+use Rattle.rules.specs.Sheet.{Frame, Outcome, newId}
+use Rattle.rules.specs.Laws.Happens.{TabAt, Happens, nothing, joins, renews, selects, leaves, ends, types}
+use Rattle.rules.specs.Rule.Desk.{idAt, suffixAt}
 use Rattle.rules.specs.Laws.Happens.{points, paints, sockets, fetches, stores, gets, denies, results, documents}
 use Rattle.rules.specs.Laws.Happens.{refused-is, at-live}
 use Rattle.rules.specs.Time.Induct.{Kept, induct, history-sound}

@@ -8,22 +8,21 @@ use native.Mathlib.Nat.{lt-of-le-of-lt}
 use native.Mathlib.Omega.{arith}
 use lib.ListN.{drop}
 use lib.Dec.{eqb}
-use Rattle.table.specs.Base.{one}
-use Rattle.table.specs.Table.{opens, mostOpens, view, seatOfId, serialOfId, soundTable, Openable, TabLive, opened, picked}
-use Rattle.table.specs.Table.{closed, waits, marked, unmarked}
-use Rattle.table.specs.declared.mark.Mark.{Mark}
-use Rattle.table.specs.declared.mark.Mark.the-variants.{Cookie, Document}
-use Rattle.table.specs.Laws.Tab.{id-seat, id-serial}
-use Rattle.table.specs.Promises.{Grows, open-grows, close-grows, pick-grows, mark-grows, unmark-grows}
+use Rattle.fields.specs.Base.{one}
+use Rattle.fields.specs.Table.{opens, mostOpens, view, seatOfId, serialOfId, soundTable, Openable, TabLive, opened, picked}
+use Rattle.fields.specs.Table.{closed, waits, marked, unmarked}
+use Rattle.fields.specs.declared.mark.Mark.{Mark}
+use Rattle.fields.specs.declared.mark.Mark.the-variants.{Cookie, Document}
+use Rattle.fields.specs.Laws.Tab.{id-seat, id-serial}
+use Rattle.fields.specs.Promises.{Grows, open-grows, close-grows, pick-grows, mark-grows, unmark-grows}
 use Rattle.rules.specs.Rule.Call.{isFrame, among}
 use Rattle.rules.specs.Rule.Ids.{tabLive}
-use Rattle.rules.specs.Rules.{Frame, Outcome}
-use Rattle.rules.specs.Inner.{newId}
+use Rattle.rules.specs.Sheet.{Frame, Outcome, newId}
 use Rattle.rules.specs.Laws.Happens.{Happens, nothing, joins, renews, selects, leaves, ends, types, points, paints}
 use Rattle.rules.specs.Laws.Happens.{sockets, fetches, stores, gets, denies, results, documents, refused-is, at-live}
 use Rattle.rules.specs.Time.Rows.{opened-heads}
 use Rattle.rules.specs.Time.Moves.{Moves, rests, comes, goes, idle}
-use Rattle.rules.specs.Time.Live.{picked-same, marked-same, unmarked-same, opened-turns, closed-turns}
+use Rattle.rules.specs.Time.Live.{picked-same, marked-same, unmarked-same, opened-flips, closed-flips}
 
 -- the seat of this id has not yet come to its serial
 abbrev pub TabAhead : List ℕ → ℕ → Type 0
@@ -53,7 +52,7 @@ module _ (t : List ℕ) (s : ℕ) (x : List ℕ) (w : Openable t s x) where
   begins : (l : List Frame) → ((i : ℕ) → among 5 i 1 l ≡ one (eqb (newId (view t) s) i)) → ((i : ℕ) → among 5 i 2 l ≡ 0)
       → TabMoves t (opened t s x) l
   begins l n m =
-      comes (newId (view t) s) n m (opened-turns t s x w) new-ahead new-given (later t (opened t s x) (open-grows t s x w))
+      comes (newId (view t) s) n m (opened-flips t s x w) new-ahead new-given (later t (opened t s x) (open-grows t s x w))
 
 -- ---- outcome by outcome
 
@@ -72,8 +71,8 @@ module _ (t : List ℕ) (l : List Frame) (n : (i : ℕ) → among 5 i 1 l ≡ 0)
   marks : (s k : ℕ) (o : Mark) → TabLive t s k → waits (view t) s k o ≡ false → TabMoves t (marked t s k o) l
   marks s k o w h = quiet (marked t s k o) (marked-same o w h) (mark-grows t s k o w h)
 
-  unmarks : (s k : ℕ) (o : Mark) → TabLive t s k → TabMoves t (unmarked t s k o) l
-  unmarks s k o w = quiet (unmarked t s k o) (unmarked-same o w) (unmark-grows t s k o w)
+  unmarks : (s k : ℕ) (o : Mark) → TabLive t s k → waits (view t) s k o ≡ true → TabMoves t (unmarked t s k o) l
+  unmarks s k o w h = quiet (unmarked t s k o) (unmarked-same o w h) (unmark-grows t s k o w)
 
 pub tab-moves : {t b e : List ℕ} {x : Outcome} → soundTable t ≡ true → Happens t b e x → TabMoves t (x .table) (x .actions)
 unfolding among isFrame one
@@ -84,9 +83,9 @@ tab-moves {t = t} {e = e} {x = x} z (renews s o h) =
     begins t s (drop 10 e) (o .takes) (x .actions) (λ i. omega arith) (λ i. refl)
 tab-moves {t = t} {x = x} z (selects s k i f h w) = picks t (x .actions) (λ i. refl) (λ i. refl) s k (at-live z w)
 tab-moves {t = t} z (leaves s i f h w y g) =
-    goes i (λ i. refl) (λ i. omega arith) (closed-turns t s i w y) (later t (closed t s) (close-grows t s w))
+    goes i (λ i. refl) (λ i. omega arith) (closed-flips t s i w y) (later t (closed t s) (close-grows t s w))
 tab-moves {t = t} z (ends s i f h w y g) =
-    goes i (λ i. refl) (λ i. omega arith) (closed-turns t s i w y) (later t (closed t s) (close-grows t s w))
+    goes i (λ i. refl) (λ i. omega arith) (closed-flips t s i w y) (later t (closed t s) (close-grows t s w))
 tab-moves {t = t} {x = x} z (types s i f w) = stays t (x .actions) (λ i. refl) (λ i. refl)
 tab-moves {t = t} {x = x} z (points s i y f w) = stays t (x .actions) (λ i. refl) (λ i. refl)
 tab-moves {t = t} {x = x} z (paints i s k y f w h) = stays t (x .actions) (λ i. refl) (λ i. refl)
@@ -96,6 +95,6 @@ tab-moves {t = t} {x = x} z (stores i s k domain y f w h) = stays t (x .actions)
 tab-moves {t = t} {x = x} z (gets i s k domain f w h g) = marks t (x .actions) (λ i. refl) (λ i. refl) s k Cookie (at-live z w) g
 tab-moves {t = t} {x = x} z (denies tag i s k f w) = stays t (x .actions) (λ i. refl) (λ i. refl)
 tab-moves {t = t} {x = x} z (results n i s k y f w q g) =
-    unmarks t (x .actions) (λ i. refl) (λ i. refl) s k _ (at-live z w)
+    unmarks t (x .actions) (λ i. refl) (λ i. refl) s k _ (at-live z w) g
 tab-moves {t = t} {x = x} z (documents i s k y f w g) =
-    unmarks t (x .actions) (λ i. refl) (λ i. refl) s k _ (at-live z w)
+    unmarks t (x .actions) (λ i. refl) (λ i. refl) s k _ (at-live z w) g

@@ -6,23 +6,23 @@ use mathlib.Core.Bool.{true, false, false≢true}
 use mathlib.Core.Logic.{_≢_, _⊎_, inl, inr}
 use mathlib.Core.List.{List}
 use native.Mathlib.Omega.{arith}
-use Rattle.names.specs.Names.{folded}
-use Rattle.table.specs.Table.{selected, opens, serial, row, waiting, mostOpens, view, tabId, seatOfId, serialOfId, soundTable}
-use Rattle.table.specs.Table.{live, used, tabOf, freeSlot, Openable, Closable, TabLive, opened, picked, closed, waits}
-use Rattle.table.specs.declared.mark.Mark.{Mark}
-use Rattle.table.specs.Laws.Sound.{live-of, zero-free}
-use Rattle.table.specs.Laws.Table.{table-facts}
-use Rattle.table.specs.Laws.There.{live-there}
-use Rattle.table.specs.Laws.Asked.{live-used, live-serial}
-use Rattle.table.specs.Laws.Find.{free-slot}
-use Rattle.table.specs.Laws.Tab.{id-seat, id-serial}
-use Rattle.table.specs.Laws.Seats.{Elsewhere, where-is}
-use Rattle.table.specs.Laws.Closed.{closed-sound}
-use Rattle.table.specs.Laws.Waited.{picked-quiet, picked-selects, picked-waits as picked-wait}
-use Rattle.table.specs.Laws.Marks.{waits-none}
-use Rattle.rules.specs.Inner.{newId}
+use Rattle.terms.specs.Names.{folded}
+use Rattle.fields.specs.Table.{selected, opens, serial, row, waiting, mostOpens, view, tabId, seatOfId, serialOfId, soundTable}
+use Rattle.fields.specs.Table.{live, used, tabOf, freeSlot, Openable, Closable, TabLive, opened, picked, closed, waits}
+use Rattle.fields.specs.declared.mark.Mark.{Mark}
+use Rattle.fields.specs.Laws.Sound.{live-of, zero-free}
+use Rattle.fields.specs.Laws.Table.{table-facts}
+use Rattle.fields.specs.Laws.There.{live-there}
+use Rattle.fields.specs.Laws.Asked.{live-used, live-serial}
+use Rattle.fields.specs.Laws.Find.{free-slot}
+use Rattle.fields.specs.Laws.Tab.{id-seat, id-serial}
+use Rattle.fields.specs.Laws.Seats.{Elsewhere, where-is}
+use Rattle.fields.specs.Laws.Closed.{closed-sound}
+use Rattle.fields.specs.Laws.Waited.{picked-quiet, picked-selects, picked-waits as picked-wait}
+use Rattle.fields.specs.Laws.Marks.{waits-none}
+use Rattle.rules.specs.Sheet.{newId}
 use Rattle.rules.specs.Laws.Acts.{tab-at}
-use Rattle.rules.specs.Laws.Happens.{idAt, suffixAt}
+use Rattle.rules.specs.Rule.Desk.{idAt, suffixAt}
 use Rattle.rules.specs.Time.Rows.{picked-rows}
 use Rattle.rules.specs.Time.Same.{everywhere, live-same, at-apart, stays, waits-still, quiet-still, OpenedTab, opened-at}
 use Rattle.rules.specs.Time.Same.{ClosedTab, closed-at}

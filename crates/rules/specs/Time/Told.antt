@@ -5,22 +5,23 @@ use mathlib.Core.Bool.{Bool, true, false, false≢true}
 use mathlib.Core.Logic.{_≢_, _⊎_, inl, inr, ⊎-elim}
 use mathlib.Core.List.{List, _∷_}
 use native.Mathlib.Omega.{arith}
-use Rattle.table.specs.Table.{View, selected, opens, serial, view, seatOfId, serialOfId, soundTable, live, freeSlot, Openable}
-use Rattle.table.specs.Table.{Closable, TabLive, opened, picked, closed, waits, marked, unmarked}
-use Rattle.table.specs.declared.mark.Mark.{Mark}
-use Rattle.table.specs.Laws.Each.{same-or}
-use Rattle.table.specs.Laws.There.{live-there}
-use Rattle.table.specs.Laws.Asked.{live-serial}
-use Rattle.table.specs.Laws.Tab.{id-seat, id-serial}
-use Rattle.table.specs.Laws.Table.{table-facts}
+use Rattle.fields.specs.Table.{View, selected, opens, serial, view, seatOfId, serialOfId, soundTable, live, freeSlot, Openable}
+use Rattle.fields.specs.Table.{Closable, TabLive, opened, picked, closed, waits, marked, unmarked}
+use Rattle.fields.specs.declared.mark.Mark.{Mark}
+use Rattle.fields.specs.Laws.Each.{same-or}
+use Rattle.fields.specs.Laws.There.{live-there}
+use Rattle.fields.specs.Laws.Asked.{live-serial}
+use Rattle.fields.specs.Laws.Tab.{id-seat, id-serial}
+use Rattle.fields.specs.Laws.Table.{table-facts}
 use Rattle.rules.specs.Rule.Call.{Call}
-use Rattle.rules.specs.Inner.{newId}
-use Rattle.rules.specs.Laws.Happens.{TabAt, idAt, at-live}
+use Rattle.rules.specs.Sheet.{newId}
+use Rattle.rules.specs.Laws.Happens.{TabAt, at-live}
+use Rattle.rules.specs.Rule.Desk.{idAt}
 use Rattle.rules.specs.Time.Tabs.{Stays, id-apart, opened-new, opened-tab, opened-waits, closed-gone, closed-tab}
 use Rattle.rules.specs.Time.Tabs.{closed-waits, picked-still, picked-waits}
 use Rattle.rules.specs.Time.Marks.{MarkedTo, marked-to, unmarked-to}
 use Rattle.rules.specs.Time.Rows.{opened-heads, closed-heads, picked-rows, marked-rows, unmarked-rows}
-use Rattle.rules.specs.Time.Pending.{mark-or, due, Turns}
+use Rattle.rules.specs.Time.Pending.{mark-or, due, MarkTurns}
 use Rattle.rules.specs.Time.Same.{here-or}
 
 -- what every table of a history tells: of a live tab what is due to it, and nothing is due to an id that was never given
@@ -131,7 +132,7 @@ module _ {cs : List Call} {t : List ℕ} (told : Tells cs t) where
       omega arith
 
   module _ {b : Bool} {m : Mark} {i s k : ℕ} {u : List ℕ} {c : Call} (e : soundTable t ≡ true) (a : TabAt t i s k)
-      (w : MarkedTo b t u s k m) (d : Turns b m i cs c) where
+      (w : MarkedTo b t u s k m) (d : MarkTurns b m i cs c) where
     turned-here : (o : Mark) → waits (view u) s k o ≡ due o (c ∷ cs) i
     turned-here o =
         ⊎-elim (λ (q : o ≡ m). rw q (w .marked= ∙ sym (d .this)))
@@ -164,8 +165,8 @@ module _ {cs : List Call} {t : List ℕ} (told : Tells cs t) where
     tab : TabLive t s k
     tab = at-live e a
 
-    pub marks : {c : Call} → waits (view t) s k m ≡ false → Turns true m i cs c → Tells (c ∷ cs) (marked t s k m)
+    pub marks : {c : Call} → waits (view t) s k m ≡ false → MarkTurns true m i cs c → Tells (c ∷ cs) (marked t s k m)
     marks w d = turned e a (marked-to t s k m tab w) d (marked-rows t s k m tab w .heads .opens=)
 
-    pub unmarks : {c : Call} → waits (view t) s k m ≡ true → Turns false m i cs c → Tells (c ∷ cs) (unmarked t s k m)
+    pub unmarks : {c : Call} → waits (view t) s k m ≡ true → MarkTurns false m i cs c → Tells (c ∷ cs) (unmarked t s k m)
     unmarks w d = turned e a (unmarked-to t s k m tab w) d (unmarked-rows t s k m tab .heads .opens=)

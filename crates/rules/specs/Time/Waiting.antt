@@ -3,15 +3,15 @@ use Prim.Native.Nat.{ℕ}
 use mathlib.Core.Path.{_≡_, refl, sym, _∙_}
 use mathlib.Core.Bool.{true, false≢true}
 use mathlib.Core.List.{List, [], _∷_}
-use Rattle.names.specs.Names.{soundBook}
-use Rattle.table.specs.Table.{view, soundTable, fresh}
-use Rattle.table.specs.declared.mark.Mark.the-variants.{Cookie, Document}
-use Rattle.table.specs.Laws.Sound.{zero-free}
-use Rattle.table.specs.Laws.Fresh.{fresh-fields}
+use Rattle.terms.specs.Names.{soundBook}
+use Rattle.fields.specs.Table.{view, soundTable, fresh}
+use Rattle.fields.specs.declared.mark.Mark.the-variants.{Cookie, Document}
+use Rattle.fields.specs.Laws.Sound.{zero-free}
+use Rattle.fields.specs.Laws.Fresh.{fresh-fields}
 use Rattle.rules.specs.Rule.Call.{Call, step, actions, isFrame, sends, reaches, pending}
 use Rattle.rules.specs.Rule.History.{History}
 use Rattle.rules.specs.Rule.Ids.{DocumentDue, CookieDue}
-use Rattle.rules.specs.Rules.{Outcome}
+use Rattle.rules.specs.Sheet.{Outcome}
 use Rattle.rules.specs.Laws.Happens.{Happens, nothing, joins, renews, selects, leaves, ends, types, points, paints}
 use Rattle.rules.specs.Laws.Happens.{sockets, fetches, stores, gets, denies, results, documents, refused-is, at-live}
 use Rattle.rules.specs.Time.Induct.{induct, history-sound}

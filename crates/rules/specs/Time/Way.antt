@@ -6,15 +6,16 @@ use mathlib.Core.Bool.{true, false, false≢true, _||_, or-false}
 use mathlib.Core.List.{List, _++_}
 use lib.Dec.{eqb}
 use borrow.Author.Tests.{eqb-true}
-use Rattle.table.specs.Table.{serial, row, view, live, waits, TabLive}
-use Rattle.table.specs.Laws.Asked.{live-used, live-serial}
-use Rattle.table.specs.Laws.Tab.{id-seat}
-use Rattle.table.specs.declared.mark.Mark.the-variants.{Cookie}
+use Rattle.fields.specs.Table.{serial, row, view, live, waits, TabLive}
+use Rattle.fields.specs.Laws.Asked.{live-used, live-serial}
+use Rattle.fields.specs.Laws.Tab.{id-seat}
+use Rattle.fields.specs.declared.mark.Mark.the-variants.{Cookie}
 use Rattle.rules.specs.Rule.Call.{Call, step, start, event, actions, partyOf, idOf, isFrame, sends, pending}
 use Rattle.rules.specs.Rule.History.{History}
 use Rattle.rules.specs.Rule.Demand.{Ways, Same, Way}
-use Rattle.rules.specs.Rules.{be, Outcome}
-use Rattle.rules.specs.Laws.Happens.{From, TabAt, idAt, processAt, Happens, nothing, joins, renews, selects, leaves, ends}
+use Rattle.rules.specs.Sheet.{be, Outcome}
+use Rattle.rules.specs.Laws.Happens.{From, TabAt, Happens, nothing, joins, renews, selects, leaves, ends}
+use Rattle.rules.specs.Rule.Desk.{idAt, processAt}
 use Rattle.rules.specs.Laws.Happens.{types, points, paints, sockets, fetches, stores, gets, denies, results, documents}
 use Rattle.rules.specs.Laws.Happens.{refused-is}
 use Rattle.rules.specs.Time.Induct.{Each, each-call, history-sound}

@@ -1,7 +1,8 @@
 //! The static library against the reference, on generated calls. Answer, counts, table and whole room are compared at each.
-//!   calls [--seed N] [--calls N] [--threads N] [--case N] [--heap]
+//!   calls [--seed N] [--calls N] [--threads N] [--case N] [--heap] [--as-found]
 //! Each thread plays its own cases until the calls are made; --case plays one again. --heap lends memory of the heap, for
-//! valgrind, instead of pages between guard pages. The exit status is 0 only if nothing differed and all was covered.
+//! valgrind, instead of pages between guard pages. --as-found prints a difference at once, not made small. The exit status is 0
+//! only if nothing differed and all was covered.
 use differential::call::Library;
 use differential::cases::CASES;
 use differential::compare::{Compare, Difference, Seen};
@@ -20,10 +21,11 @@ struct Options {
     threads: u64,
     case: Option<u64>,
     heap: bool,
+    as_found: bool,
 }
 
 fn options() -> Options {
-    let mut o = Options { seed: 1, calls: 1_000_000, threads: 2, case: None, heap: false };
+    let mut o = Options { seed: 1, calls: 1_000_000, threads: 2, case: None, heap: false, as_found: false };
     let mut words = std::env::args().skip(1);
     while let Some(word) = words.next() {
         let mut number = || words.next().and_then(|w| w.parse().ok()).expect("a number after the word");
@@ -33,6 +35,7 @@ fn options() -> Options {
             "--threads" => o.threads = number(),
             "--case" => o.case = Some(number()),
             "--heap" => o.heap = true,
+            "--as-found" => o.as_found = true,
             _ => panic!("unknown word {word}"),
         }
     }
@@ -58,7 +61,9 @@ fn work(o: Options, first: u64, stop: &AtomicBool) -> (Seen, Option<Failure>) {
     while c.seen.calls < share && !stop.load(Ordering::Relaxed) {
         if let Err(mut failure) = play(&mut c, o, case) {
             stop.store(true, Ordering::Relaxed);
-            shrink::shrink(&mut c, &mut failure.difference);
+            if !o.as_found {
+                shrink::shrink(&mut c, &mut failure.difference);
+            }
             return (c.seen, Some(failure));
         }
         if o.case.is_some() {
@@ -81,7 +86,8 @@ fn main() -> ExitCode {
     let mut all = Seen::default();
     done.iter().for_each(|(seen, _)| all.add(seen));
     if let Some(failure) = done.iter().find_map(|(_, f)| f.as_ref()) {
-        println!("after {} calls:", all.calls);
+        let how = if o.as_found { "as it was found" } else { "made small" };
+        println!("after {} calls; the call below is {how}:", all.calls);
         report::difference(o.seed, failure.case, &failure.difference);
         return ExitCode::FAILURE;
     }

@@ -1,15 +1,15 @@
 -- `run::run`: turn after turn, with one less left each time.
-use Rattle.asksuffix.specs.Laws.Run.{Running, running-first, turn-after, running-large, running-next}
+use Rattle.asksuffix.specs.Laws.Run.{Running, running-first, running-large, running-turn, running-next}
 use native.Mathlib.Omega.{arith}
 use borrow.Author.Needs.{needs}
 use Rattle.asksuffix.proofs.run.run.Statement.{statement}
 use Rattle.asksuffix.proofs.run.run.Tie as tie
 
 abbrev Inv-loop : tie.InvT-loop
-Inv-loop buf₀ book out₀ p₀ left₀ buf out p left = Running buf₀ out₀ buf out p left
+Inv-loop buf₀ book out₀ who p₀ left₀ buf out p left = Running buf₀ out₀ buf out p left
 
 abbrev μ-loop : tie.MeasureT-loop
-μ-loop buf₀ book out₀ p₀ left₀ buf out p left = left
+μ-loop buf₀ book out₀ who p₀ left₀ buf out p left = left
 
 loop-holds : tie.Need-loop-holds Inv-loop μ-loop
 loop-holds c = running-first _ _ _ (omega arith)
@@ -18,16 +18,14 @@ turn-requires : tie.Need-turn-requires Inv-loop μ-loop
 turn-requires c κs =
     let test = c .before .before in
     let r = test .before .loop .inv in
-    let start = test .before .before .before .before .before in
+    let start = test .before .before .before .before .before .before in
     (r .sound, (running-large r (start .pre), omega (arith, r .counted, test .loop-test .taken)))
 
 flush-requires : tie.Need-flush-requires Inv-loop μ-loop
 flush-requires c κs =
     let turned = c .before .before .before .before .before in
     let at-loop = turned .before .before .before .before in
-    let r = at-loop .loop .inv in
-    let h = running-large r (at-loop .before .before .before .before .pre) in
-    let a = turn-after (r .sound) (h .roomy) (turned .turn .ensures) in
+    let a = running-turn (at-loop .loop .inv) (at-loop .before .before .before .before .before .pre) (turned .turn .ensures) in
     omega (arith, a .fits)
 
 same-length : tie.Need-same-length Inv-loop μ-loop
@@ -38,6 +36,27 @@ same-length-2 c = search needs
 
 returns : tie.Need-returns Inv-loop μ-loop
 returns c = search needs
+
+sub-say-cut : tie.Need-sub-say-cut Inv-loop μ-loop
+sub-say-cut c =
+    let turned = c .before .before .before .before .before .before .before .before in
+    let at-loop = turned .before .before .before .before in
+    let a = running-turn (at-loop .loop .inv) (at-loop .before .before .before .before .before .pre) (turned .turn .ensures) in
+    omega (arith, a .sound .ahead)
+
+part-say-cut-start : tie.Need-part-say-cut-start Inv-loop μ-loop
+part-say-cut-start c =
+    let turned = c .before .before .before .before .before .before .before .before .before in
+    let at-loop = turned .before .before .before .before in
+    let a = running-turn (at-loop .loop .inv) (at-loop .before .before .before .before .before .pre) (turned .turn .ensures) in
+    omega (arith, a .sound .ahead)
+
+part-say-cut-end : tie.Need-part-say-cut-end Inv-loop μ-loop
+part-say-cut-end c =
+    let turned = c .before .before .before .before .before .before .before .before .before in
+    let at-loop = turned .before .before .before .before in
+    let a = running-turn (at-loop .loop .inv) (at-loop .before .before .before .before .before .pre) (turned .turn .ensures) in
+    omega (arith, a .sound .inside, turned .turn .kept .0)
 
 say-cut-requires : tie.Need-say-cut-requires Inv-loop μ-loop
 say-cut-requires c κs = search needs
@@ -63,7 +82,7 @@ loop-again c =
     let kept = turned .turn .kept in
     let test = turned .before .before .before in
     let at-loop = test .before in
-    running-next (at-loop .loop .inv) (at-loop .before .before .before .before .pre) (test .loop-test .taken)
+    running-next (at-loop .loop .inv) (at-loop .before .before .before .before .before .pre) (test .loop-test .taken)
     (turned .turn .ensures) (kept .0) (kept .1 .1 .0)
 
 same-length-5 : tie.Need-same-length-5 Inv-loop μ-loop
@@ -87,6 +106,9 @@ run-spec =
     same-length
     same-length-2
     returns
+    sub-say-cut
+    part-say-cut-start
+    part-say-cut-end
     say-cut-requires
     same-length-3
     same-length-4

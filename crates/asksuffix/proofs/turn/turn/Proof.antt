@@ -30,7 +30,7 @@ answer-requires : tie.Need-answer-requires
 answer-requires c κs =
     let test = c .before .before .before in
     let whole = test .before in
-    let start = whole .before .before .before .before .before .before in
+    let start = whole .before .before .before .before .before .before .before in
     let args = start .args in
     let pre = start .pre in
     turn-given (args .buf .now) (args .book .now) (args .out .now) (args .p) (pre .0) (omega arith) (pre .1 .0 .roomy)
@@ -46,7 +46,7 @@ returns : tie.Need-returns
 returns c =
     let test = c .before .before .before .before .before .before in
     let whole = test .before in
-    let start = whole .before .before .before .before .before .before in
+    let start = whole .before .before .before .before .before .before .before in
     let args = start .args in
     turn-answered (args .buf .now) (args .book .now) (args .out .now) (args .p) (start .pre .0) (whole .is-whole .ensures .0)
     (test .if1 .taken) (c .before .before .answer .ensures)
@@ -60,7 +60,7 @@ same-length-3 c = search needs
 returns-2 : tie.Need-returns-2
 returns-2 c =
     let whole = c .before .before .before in
-    let args = whole .before .before .before .before .before .before .args in
+    let args = whole .before .before .before .before .before .before .before .args in
     turn-stopped (args .buf .now) (args .book .now) (args .out .now) (args .p) (whole .is-whole .ensures .0)
     (c .before .before .if1 .left) (c .before .if2 .taken) (c .stop .ensures)
 
@@ -74,7 +74,7 @@ returns-3 : tie.Need-returns-3
 returns-3 c =
     let test = c .before .before .before .before .before in
     let whole = test .before in
-    let args = whole .before .before .before .before .before .before .args in
+    let args = whole .before .before .before .before .before .before .before .args in
     turn-read (args .buf .now) (args .book .now) (args .out .now) (args .p) (whole .is-whole .ensures .0)
     (whole .is-whole .ensures .1) (test .if1 .left) (c .before .before .before .before .if2 .left)
     (c .before .before .refill .ensures)

@@ -1,52 +1,35 @@
--- The loop keeps the lengths, and each turn passes a line feed or the end. Assumes nothing.
-use mathlib.Core.Path.{_≡_}
-use Prim.Native.Nat.{_-_}
-use lib.ListN.{length}
+-- The loop runs over the lines. Assumes nothing.
+use Prim.Native.Nat.{_≤_, _-_}
 use borrow.Author.Needs.{needs}
 use Rattle.kernel_runs.proofs.command.run.Statement.{statement}
 use Rattle.kernel_runs.proofs.command.run.Tie as tie
 
 abbrev Inv-loop : tie.InvT-loop
-Inv-loop script table₀ book₀ room₀ lent₀ at₀ table book room lent at = (length table ≡ length table₀) × ((length book ≡ length book₀) × (length room ≡ length room₀))
+Inv-loop script table₀ book₀ room₀ lent₀ lines k₀ table book room lent k = k ≤ lines
 
 abbrev μ-loop : tie.MeasureT-loop
-μ-loop script table₀ book₀ room₀ lent₀ at₀ table book room lent at = length script - at
+μ-loop script table₀ book₀ room₀ lent₀ lines k₀ table book room lent k = lines - k
+
+count-requires : tie.Need-count-requires Inv-loop μ-loop
+count-requires c κs = search needs
 
 loop-holds : tie.Need-loop-holds Inv-loop μ-loop
 loop-holds c = search needs
 
-end-of-requires : tie.Need-end-of-requires Inv-loop μ-loop
-end-of-requires c κs = search needs
+part-requires : tie.Need-part-requires Inv-loop μ-loop
+part-requires c κs = search needs
 
-sub-turn : tie.Need-sub-turn Inv-loop μ-loop
-sub-turn c = search needs
+obey-requires : tie.Need-obey-requires Inv-loop μ-loop
+obey-requires c κs = search needs
 
-part-turn-start : tie.Need-part-turn-start Inv-loop μ-loop
-part-turn-start c = search needs
-
-part-turn-end : tie.Need-part-turn-end Inv-loop μ-loop
-part-turn-end c = search needs
-
-turn-requires : tie.Need-turn-requires Inv-loop μ-loop
-turn-requires c κs = search needs
-
-add-at : tie.Need-add-at Inv-loop μ-loop
-add-at c = search needs
+add-k : tie.Need-add-k Inv-loop μ-loop
+add-k c = search needs
 
 loop-less : tie.Need-loop-less Inv-loop μ-loop
 loop-less c = search needs
 
 loop-again : tie.Need-loop-again Inv-loop μ-loop
 loop-again c = search needs
-
-same-length : tie.Need-same-length Inv-loop μ-loop
-same-length c = search needs
-
-same-length-2 : tie.Need-same-length-2 Inv-loop μ-loop
-same-length-2 c = search needs
-
-same-length-3 : tie.Need-same-length-3 Inv-loop μ-loop
-same-length-3 c = search needs
 
 returns : tie.Need-returns Inv-loop μ-loop
 returns c = search needs
@@ -57,16 +40,11 @@ run-spec =
     (tie.spec
     Inv-loop
     μ-loop
+    count-requires
     loop-holds
-    end-of-requires
-    sub-turn
-    part-turn-start
-    part-turn-end
-    turn-requires
-    add-at
+    part-requires
+    obey-requires
+    add-k
     loop-less
     loop-again
-    same-length
-    same-length-2
-    same-length-3
     returns)

@@ -1,10 +1,10 @@
 -- The orders that are read are those of the book. Assumes nothing.
 use mathlib.Core.Path.{sym, ap, _∙_}
 use Prim.Native.Nat.{ℕ}
-use Rattle.names.specs.Names.{lettingOf}
-use Rattle.names.specs.Inner.{ordersFrom}
-use Rattle.names.specs.Laws.Book.{book-size, orders-fit}
-use Rattle.names.specs.Steps.Book.{orders-is}
+use Rattle.terms.specs.Names.{lettingOf}
+use Rattle.terms.specs.Inner.{ordersFrom}
+use Rattle.terms.specs.Laws.Book.{book-size, orders-fit}
+use Rattle.terms.specs.Steps.Book.{orders-is}
 use native.Mathlib.Omega.{arith}
 use Rattle.names.proofs.book.letting_of.Statement.{statement}
 use Rattle.names.proofs.book.letting_of.Tie as tie

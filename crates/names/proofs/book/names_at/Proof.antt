@@ -1,6 +1,6 @@
 -- The number is that of `namesAt`. Assumes nothing.
 use mathlib.Core.Path.{sym, _∙_}
-use Rattle.names.specs.Steps.Book.{names-at-is}
+use Rattle.terms.specs.Steps.Book.{names-at-is}
 use borrow.Author.Needs.{needs}
 use Rattle.names.proofs.book.names_at.Statement.{statement}
 use Rattle.names.proofs.book.names_at.Tie as tie

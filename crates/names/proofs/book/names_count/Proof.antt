@@ -1,6 +1,6 @@
 -- The number is that of `namesCount`. Assumes nothing.
 use mathlib.Core.Path.{sym, _∙_}
-use Rattle.names.specs.Steps.Book.{names-count-is}
+use Rattle.terms.specs.Steps.Book.{names-count-is}
 use borrow.Author.Needs.{needs}
 use Rattle.names.proofs.book.names_count.Statement.{statement}
 use Rattle.names.proofs.book.names_count.Tie as tie

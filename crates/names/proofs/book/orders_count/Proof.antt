@@ -1,6 +1,6 @@
 -- The byte is that of `ordersCount`. Assumes nothing.
 use mathlib.Core.Path.{sym, _∙_}
-use Rattle.names.specs.Steps.Book.{orders-count-is}
+use Rattle.terms.specs.Steps.Book.{orders-count-is}
 use borrow.Author.Needs.{needs}
 use Rattle.names.proofs.book.orders_count.Statement.{statement}
 use Rattle.names.proofs.book.orders_count.Tie as tie

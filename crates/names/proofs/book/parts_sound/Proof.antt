@@ -1,11 +1,12 @@
 -- Each early way out breaks a part of the conjunction; the last test is what is left of it. Assumes nothing.
 use mathlib.Core.Bool.{true, false, and-false}
 use mathlib.Core.Path.{_≡_, sym}
-use Prim.Native.Nat.{_*_}
+use Prim.Native.Nat.{_*_, _-_}
+use lib.ListN.{length}
 use borrow.Author.Tests.{not-true, not-false}
-use Rattle.names.specs.Names.{orders, listed}
-use Rattle.names.specs.Inner.{orderSize, ordersCount, namesAt, soundOrders, soundNames}
-use Rattle.names.specs.Steps.Book.{gap, overrun, orders-read, rest}
+use Rattle.terms.specs.Names.{orders, listed}
+use Rattle.terms.specs.Inner.{orderSize, trailerSize, trailer, ordersCount, namesAt, soundOrders, soundNames}
+use Rattle.terms.specs.Steps.Book.{trailer-is, gap, overrun, orders-read, rest}
 use native.Mathlib.Omega.{arith}
 use borrow.Author.Needs.{needs}
 use Rattle.names.proofs.book.parts_sound.Statement.{statement}
@@ -22,14 +23,16 @@ mul-if1 c = search needs
 
 returns : tie.Need-returns
 returns c =
-    let b = c .before .before .before .before .args .b .now in sym (gap b (soundOrders (orders b)) (soundNames (listed b)) (λ q. omega arith))
+    let b = c .before .before .before .before .args .b .now in
+    sym (gap b (trailer b) (soundOrders (orders b)) (soundNames (listed b)) (λ q. omega arith))
 
-sub-if2 : tie.Need-sub-if2
-sub-if2 c = search needs
+sub-until : tie.Need-sub-until
+sub-until c = search needs
 
 returns-2 : tie.Need-returns-2
 returns-2 c =
-    let b = c .before .before .before .before .before .args .b .now in sym (overrun b (soundOrders (orders b)) (soundNames (listed b)) (omega arith))
+    let b = c .before .before .before .before .before .args .b .now in
+    sym (overrun b (trailer b) (soundOrders (orders b)) (soundNames (listed b)) (omega (arith, trailer-is b)))
 
 are-sound-requires : tie.Need-are-sound-requires
 are-sound-requires c κs = search needs
@@ -59,8 +62,8 @@ returns-4 c =
     orders-read b (orders-count .result) (are-sound .result) true
     (orders-count .ensures .0) (are-sound .ensures) (not-false _ (c .before .before .if3 .left)) in
     let j : namesAt b ≡ orderSize * ordersCount b = omega arith in
-    rest b (names-at .result) (c .before .names-count .result) (c .are-sound2 .result)
-    (names-at .ensures .0) (c .before .names-count .ensures .0) j e (c .are-sound2 .ensures)
+    rest b (names-at .result) (c .before .names-count .result) (length b - trailerSize) (c .are-sound2 .result)
+    (names-at .ensures .0) (c .before .names-count .ensures .0) (sym (trailer-is b)) j e (c .are-sound2 .ensures)
 
 pub parts-sound-spec : {M : Type 1} → statement M
 parts-sound-spec =
@@ -70,7 +73,7 @@ parts-sound-spec =
     names-at-requires
     mul-if1
     returns
-    sub-if2
+    sub-until
     returns-2
     are-sound-requires
     returns-3

@@ -1,4 +1,4 @@
--- The loop keeps: all names are sound and end at the trailer exactly if those that are left do, after the last name, which
+-- The loop keeps: all names are sound and end where they must exactly if those that are left do, after the last name, which
 -- lies in the book. Assumes nothing.
 use mathlib.Core.Bool.{true, false, _&&_}
 use mathlib.Core.List.{List}
@@ -7,30 +7,37 @@ use Prim.Native.Nat.{ℕ, _≤_, _+_, _-_}
 use lib.Dec.{eqb}
 use lib.ListN.{length, getD, take, drop}
 use borrow.Author.Tests.{not-true, not-false}
-use Rattle.names.specs.Inner.{trailerSize, before, isListed, soundNames, trailer, nameAt, nextAt, namesFrom, endFrom}
-use Rattle.names.specs.Steps.Listed.{next-is, trailer-is, name-part, chain, chain-start, chain-step, chain-out}
-use Rattle.names.specs.Steps.Listed.{chain-end, inside-fits}
+use Rattle.terms.specs.Inner.{before, isListed, soundNames, nameAt, nextAt, namesFrom, endFrom}
+use Rattle.terms.specs.Steps.Listed.{next-is, name-part, chain, chain-start, chain-step, chain-out, chain-end, inside-fits}
 use native.Mathlib.Omega.{arith}
 use borrow.Author.Needs.{needs}
 use Rattle.names.proofs.listed.are_sound.Statement.{statement}
 use Rattle.names.proofs.listed.are_sound.Tie as tie
 
 abbrev Inv-loop : tie.InvT-loop
-Inv-loop b from count at₀ left₀ last₀ end₀ at left last end =
+Inv-loop b from count until at₀ left₀ last₀ end₀ at left last end =
     (last ≤ end)
     × ((end ≤ length b)
-    × ((eqb (endFrom b from count) (trailer b) && soundNames (namesFrom b from count)) ≡ chain b (take (end - last) (drop last b)) at left))
+    × ((eqb (endFrom b from count) until && soundNames (namesFrom b from count))
+    ≡ chain b until (take (end - last) (drop last b)) at left))
 
 abbrev μ-loop : tie.MeasureT-loop
-μ-loop b from count at₀ left₀ last₀ end₀ at left last end = left
+μ-loop b from count until at₀ left₀ last₀ end₀ at left last end = left
 
--- the name at the place lies in the book
-inside : (c : tie.Else1 Inv-loop μ-loop) → c .before .before .before .loop .at + 1 + getD (c .before .before .before .before .before .args .b .now) (c .before .before .before .loop .at) 0 ≤ length (c .before .before .before .before .before .args .b .now) - trailerSize
-inside c = inside-fits (c .before .before .before .before .before .args .b .now) (c .before .before .before .loop .at) (sym (c .before .is-inside .ensures) ∙ not-false _ (c .if1 .left))
+-- the name at the place ends where the names may
+inside : (c : tie.Else1 Inv-loop μ-loop)
+    → c .before .before .before .loop .at + 1
+    + getD (c .before .before .before .before .before .args .b .now) (c .before .before .before .loop .at) 0
+    ≤ c .before .before .before .before .before .args .until
+inside c =
+    let args = c .before .before .before .before .before .args in
+    inside-fits (args .b .now) (args .until) (c .before .before .before .loop .at)
+    (sym (c .before .is-inside .ensures) ∙ not-false _ (c .if1 .left))
 
 loop-holds : tie.Need-loop-holds Inv-loop μ-loop
 loop-holds c =
-    (search needs, (search needs, chain-start (c .before .args .b .now) (c .before .args .from) (c .before .args .count)))
+    let args = c .before .args in
+    (search needs, (search needs, chain-start (args .b .now) (args .until) (args .from) (args .count)))
 
 is-inside-requires : tie.Need-is-inside-requires Inv-loop μ-loop
 is-inside-requires c κs = search needs
@@ -38,10 +45,12 @@ is-inside-requires c κs = search needs
 returns : tie.Need-returns Inv-loop μ-loop
 returns c =
     let loop = c .before .before .before .loop in
-    let b = c .before .before .before .before .before .args .b .now in
+    let args = c .before .before .before .before .before .args in
+    let b = args .b .now in
     let p = take (loop .end - loop .last) (drop (loop .last) b) in
     sym (loop .inv .1 .1
-    ∙ chain-out b p (loop .at) (loop .left) (c .before .before .loop-test .taken) (sym (c .before .is-inside .ensures) ∙ not-true _ (c .if1 .taken)))
+    ∙ chain-out b (args .until) p (loop .at) (loop .left) (c .before .before .loop-test .taken)
+    (sym (c .before .is-inside .ensures) ∙ not-true _ (c .if1 .taken)))
 
 add-start : tie.Need-add-start Inv-loop μ-loop
 add-start c = omega (arith, inside c)
@@ -81,13 +90,14 @@ returns-2 c =
     let loop = c .before .before .before .before .before .before .before .before .before .loop in
     let loop-test = c .before .before .before .before .before .before .before .before .loop-test in
     let wide = c .before .before .before .before .wide in
-    let b = c .before .before .before .before .before .before .before .before .before .before .before .args .b .now in
+    let args = c .before .before .before .before .before .before .before .before .before .before .before .args in
+    let b = args .b .now in
     let at = loop .at in
     let p = take (loop .end - loop .last) (drop (loop .last) b) in
     let e : isListed (nameAt b at) && before p (nameAt b at) ≡ false =
     ap (λ (n : List ℕ). isListed n && before p n) (sym (name-part b at (wide .result) (wide .ensures .0)))
     ∙ sym (c .before .is-next .ensures) ∙ not-true _ (c .if2 .taken) in
-    sym (loop .inv .1 .1 ∙ chain-step b p at (loop .left) (loop-test .taken) ∙ rw e)
+    sym (loop .inv .1 .1 ∙ chain-step b (args .until) p at (loop .left) (loop-test .taken) ∙ rw e)
 
 sub-left : tie.Need-sub-left Inv-loop μ-loop
 sub-left c = search needs
@@ -100,7 +110,8 @@ loop-again c =
     let loop = c .before .before .before .before .before .before .before .before .before .loop in
     let loop-test = c .before .before .before .before .before .before .before .before .loop-test in
     let wide = c .before .before .before .before .wide in
-    let b = c .before .before .before .before .before .before .before .before .before .before .before .args .b .now in
+    let args = c .before .before .before .before .before .before .before .before .before .before .before .args in
+    let b = args .b .now in
     let at = loop .at in
     let left = loop .left in
     let w = wide .result in
@@ -113,21 +124,17 @@ loop-again c =
       omega arith,
       (
         omega arith,
-        loop .inv .1 .1 ∙ chain-step b p at left (loop-test .taken) ∙ rw e
-            (rw m (ap (λ (x : ℕ). chain b (nameAt b at) x (left - 1)) (sym n))),
+        loop .inv .1 .1 ∙ chain-step b (args .until) p at left (loop-test .taken) ∙ rw e
+            (rw m (ap (λ (x : ℕ). chain b (args .until) (nameAt b at) x (left - 1)) (sym n))),
       ),
     )
-
-sub-result : tie.Need-sub-result Inv-loop μ-loop
-sub-result c = search needs
 
 returns-3 : tie.Need-returns-3 Inv-loop μ-loop
 returns-3 c =
     let b = c .before .before .before .args .b .now in
     let p = take (c .before .loop .end - c .before .loop .last) (drop (c .before .loop .last) b) in
     sym (c .before .loop .inv .1 .1
-    ∙ chain-end b p (c .before .loop .at) (c .before .loop .left) (c .loop-test .left)
-    ∙ rw (trailer-is b))
+    ∙ chain-end b (c .before .before .before .args .until) p (c .before .loop .at) (c .before .loop .left) (c .loop-test .left))
 
 pub are-sound-spec : {M : Type 1} → statement M
 are-sound-spec =
@@ -153,5 +160,4 @@ are-sound-spec =
     sub-left
     loop-less
     loop-again
-    sub-result
     returns-3)

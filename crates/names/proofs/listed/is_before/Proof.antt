@@ -3,8 +3,8 @@ use mathlib.Core.Path.{_≡_, refl, sym, _∙_}
 use Prim.Native.Nat.{_≤_, _-_}
 use lib.ListN.{length, drop}
 use borrow.Author.Tests.{eq-eqb, ne-eqb, lt-ltb, le-ltb}
-use Rattle.names.specs.Inner.{before}
-use Rattle.names.specs.Steps.Listed.{before-step, before-out, before-end}
+use Rattle.terms.specs.Inner.{before}
+use Rattle.terms.specs.Steps.Listed.{before-step, before-out, before-end}
 use native.Mathlib.Omega.{arith}
 use borrow.Author.Needs.{needs}
 use Rattle.names.proofs.listed.is_before.Statement.{statement}

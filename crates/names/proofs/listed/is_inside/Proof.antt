@@ -1,26 +1,21 @@
--- Both tests ask that at + 1 + n is at most the place of the trailer. Assumes nothing.
+-- Both tests ask that at + 1 + n is at most the place. Assumes nothing.
 use mathlib.Core.Path.{sym}
 use Prim.Native.Nat.{_-_}
 use lib.Dec.{ltb, leb}
-use lib.ListN.{length}
 use borrow.Author.Tests.{lt-leb, le-leb, leb-true, lt-ltb, ltb-true}
-use Rattle.names.specs.Inner.{trailerSize, nextAt, trailer}
-use Rattle.names.specs.Laws.Bools.{agree}
-use Rattle.names.specs.Steps.Listed.{next-is, trailer-is}
+use Rattle.terms.specs.Inner.{nextAt}
+use Rattle.terms.specs.Laws.Bools.{agree}
+use Rattle.terms.specs.Steps.Listed.{next-is}
 use native.Mathlib.Omega.{arith}
 use borrow.Author.Needs.{needs}
 use Rattle.names.proofs.listed.is_inside.Statement.{statement}
 use Rattle.names.proofs.listed.is_inside.Tie as tie
 
-sub-end : tie.Need-sub-end
-sub-end c = search needs
-
 returns : tie.Need-returns
 returns c =
     let args = c .before .before .args in
     let b = args .b .now in
-    let at = args .at in
-    sym (lt-leb (nextAt b at) (trailer b) (omega (arith, next-is b at, trailer-is b)))
+    sym (lt-leb (nextAt b (args .at)) (args .until) (omega (arith, next-is b (args .at))))
 
 shared-slice-read-wide : tie.Need-shared-slice-read-wide
 shared-slice-read-wide c = search needs
@@ -36,11 +31,12 @@ returns-2 c =
     let args = c .before .before .before .before .args in
     let b = args .b .now in
     let at = args .at in
+    let until = args .until in
     let w = c .wide .result in
-    agree (ltb w (length b - trailerSize - at)) (leb (nextAt b at) (trailer b))
-    (λ e. let l = ltb-true w (length b - trailerSize - at) e in le-leb (nextAt b at) (trailer b) (omega (arith, next-is b at, trailer-is b)))
-    (λ e. let l = leb-true (nextAt b at) (trailer b) e in lt-ltb w (length b - trailerSize - at) (omega (arith, next-is b at, trailer-is b)))
+    agree (ltb w (until - at)) (leb (nextAt b at) until)
+    (λ e. let l = ltb-true w (until - at) e in le-leb (nextAt b at) until (omega (arith, next-is b at)))
+    (λ e. let l = leb-true (nextAt b at) until e in lt-ltb w (until - at) (omega (arith, next-is b at)))
 
 pub is-inside-spec : {M : Type 1} → statement M
 is-inside-spec =
-    tie.close (tie.spec sub-end returns shared-slice-read-wide wide-requires sub-result returns-2)
+    tie.close (tie.spec returns shared-slice-read-wide wide-requires sub-result returns-2)

@@ -1,8 +1,8 @@
 -- The tests are those of `isListed`, in its order. Assumes nothing.
 use mathlib.Core.Path.{sym, _∙_}
 use lib.ListN.{length}
-use Rattle.names.specs.Laws.Bools.{within-in, within-low, within-high}
-use Rattle.names.specs.Steps.Listed.{listed-is}
+use Rattle.terms.specs.Laws.Bools.{within-in, within-low, within-high}
+use Rattle.terms.specs.Steps.Listed.{listed-is}
 use native.Mathlib.Omega.{arith}
 use borrow.Author.Needs.{needs}
 use Rattle.names.proofs.listed.is_listed.Statement.{statement}
@@ -25,7 +25,8 @@ returns-3 : tie.Need-returns-3
 returns-3 c =
     let n = c .before .before .before .before .before .before .args .n .now in
     c .is-folded .ensures
-    ∙ sym (listed-is n ∙ rw (within-in 1 62 (length n) (omega arith) (omega arith), sym (c .before .before .is-name .ensures) ∙ c .before .if3 .taken))
+    ∙ sym (listed-is n
+    ∙ rw (within-in 1 62 (length n) (omega arith) (omega arith), sym (c .before .before .is-name .ensures) ∙ c .before .if3 .taken))
 
 returns-4 : tie.Need-returns-4
 returns-4 c =

@@ -2,8 +2,8 @@
 use mathlib.Core.Path.{sym, _∙_}
 use Prim.Native.Nat.{_≤_}
 use lib.ListN.{length}
-use Rattle.names.specs.Names.{under}
-use Rattle.names.specs.Laws.Bools.{cases}
+use Rattle.terms.specs.Names.{under}
+use Rattle.terms.specs.Laws.Bools.{cases}
 use native.Mathlib.Omega.{arith}
 use borrow.Author.Needs.{needs}
 use Rattle.names.proofs.longest.better.Statement.{statement}

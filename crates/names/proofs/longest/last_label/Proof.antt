@@ -4,9 +4,9 @@ use mathlib.Core.Path.{_≡_, _∙_}
 use Prim.Native.Nat.{_≤_, _+_, _-_}
 use lib.ListN.{length}
 use borrow.Author.Tests.{eq-eqb, ne-eqb}
-use Rattle.names.specs.Base.{lastOf}
-use Rattle.names.specs.Inner.{labels}
-use Rattle.names.specs.Steps.Longest.{tail, tail-none, tail-step, tail-all}
+use Rattle.terms.specs.Base.{lastOf}
+use Rattle.terms.specs.Inner.{labels}
+use Rattle.terms.specs.Steps.Longest.{tail, tail-none, tail-step, tail-all}
 use native.Mathlib.Omega.{arith}
 use borrow.Author.Needs.{needs}
 use Rattle.names.proofs.longest.last_label.Statement.{statement}

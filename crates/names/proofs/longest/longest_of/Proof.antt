@@ -4,18 +4,19 @@ use mathlib.Core.Bool.{cond}
 use mathlib.Core.Path.{_≡_, sym, ap, _∙_}
 use Prim.Native.Nat.{ℕ, _≤_, _+_, max}
 use lib.ListN.{length}
-use Rattle.names.specs.Names.{under}
-use Rattle.names.specs.Inner.{nameAt, nextAt, namesFrom, endFrom, matched}
-use Rattle.names.specs.Laws.Book.{end-step, end-fits}
-use Rattle.names.specs.Steps.Listed.{next-is, name-part}
-use Rattle.names.specs.Steps.Longest.{matched-step, matched-end}
+use Rattle.terms.specs.Names.{under}
+use Rattle.terms.specs.Inner.{nameAt, nextAt, namesFrom, endFrom, matched}
+use Rattle.terms.specs.Laws.Book.{end-step, end-fits}
+use Rattle.terms.specs.Steps.Listed.{next-is, name-part}
+use Rattle.terms.specs.Steps.Longest.{matched-step, matched-end}
 use native.Mathlib.Omega.{arith}
 use borrow.Author.Needs.{needs}
 use Rattle.names.proofs.longest.longest_of.Statement.{statement}
 use Rattle.names.proofs.longest.longest_of.Tie as tie
 
 abbrev Inv-loop : tie.InvT-loop
-Inv-loop h b from count at₀ left₀ best₀ at left best = (endFrom b at left ≤ length b) × (matched h (namesFrom b from count) ≡ max best (matched h (namesFrom b at left)))
+Inv-loop h b from count at₀ left₀ best₀ at left best =
+    (endFrom b at left ≤ length b) × (matched h (namesFrom b from count) ≡ max best (matched h (namesFrom b at left)))
 
 abbrev μ-loop : tie.MeasureT-loop
 μ-loop h b from count at₀ left₀ best₀ at left best = left

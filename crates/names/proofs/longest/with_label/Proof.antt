@@ -3,8 +3,8 @@ use mathlib.Core.Path.{sym, ap, _∙_}
 use Prim.Native.Nat.{ℕ, _+_, _-_}
 use lib.ListN.{length}
 use lib.Seq.{length-take-le}
-use Rattle.names.specs.Laws.Matched.{with-label-is}
-use Rattle.names.specs.Steps.Longest.{no-label, no-more}
+use Rattle.terms.specs.Laws.Stands.{with-label-is}
+use Rattle.terms.specs.Steps.Longest.{no-label, no-more}
 use native.Mathlib.Omega.{arith}
 use borrow.Author.Needs.{needs}
 use Rattle.names.proofs.longest.with_label.Statement.{statement}

@@ -19,6 +19,23 @@ part-read-end c = search needs
 read-requires : tie.Need-read-requires
 read-requires c κs = search needs
 
+slice-aggregate-say-failed : tie.Need-slice-aggregate-say-failed
+slice-aggregate-say-failed c = search needs
+
+say-failed-requires : tie.Need-say-failed-requires
+say-failed-requires c κs = search needs
+
+same-length : tie.Need-same-length
+same-length c = search needs
+
+returns : tie.Need-returns
+returns c =
+    let got = c .before .before .before .before .before in
+    let start = got .before .before .before .before in
+    let buf = start .args .buf .now in
+    let have = start .args .have in
+    (search needs, take-put have (length buf - have) buf (got .read .last .1 .0) (omega arith))
+
 sub-count : tie.Need-sub-count
 sub-count c = search needs
 
@@ -31,16 +48,16 @@ part-count-end c = search needs
 count-requires : tie.Need-count-requires
 count-requires c κs = search needs
 
-same-length : tie.Need-same-length
-same-length c = search needs
+same-length-2 : tie.Need-same-length-2
+same-length-2 c = search needs
 
-returns : tie.Need-returns
-returns c =
-    let start = c .before .before .before .before .before .before .before .before in
+returns-2 : tie.Need-returns-2
+returns-2 c =
+    let got = c .before .before .before .before .before .before in
+    let start = got .before .before .before .before in
     let buf = start .args .buf .now in
     let have = start .args .have in
-    let got = c .before .before .before .before .before .read in
-    (search needs, take-put have (length buf - have) buf (got .last .1 .0) (omega arith))
+    (search needs, take-put have (length buf - have) buf (got .read .last .1 .0) (omega arith))
 
 pub fill-spec : {M : Type 1} → statement M
 fill-spec =
@@ -50,9 +67,13 @@ fill-spec =
     part-read-start
     part-read-end
     read-requires
+    slice-aggregate-say-failed
+    say-failed-requires
+    same-length
+    returns
     sub-count
     part-count-start
     part-count-end
     count-requires
-    same-length
-    returns)
+    same-length-2
+    returns-2)

@@ -5,16 +5,16 @@ use borrow.Author.Needs.{needs}
 use Rattle.reader.proofs.out.flush.Statement.{statement}
 use Rattle.reader.proofs.out.flush.Tie as tie
 
-slice-aggregate-write-all : tie.Need-slice-aggregate-write-all
-slice-aggregate-write-all c =
-    let start = c .before .before in
+slice-aggregate-put-out : tie.Need-slice-aggregate-put-out
+slice-aggregate-put-out c =
+    let start = c .before .before .before in
     sym (length-take-le (start .args .filled) (start .args .out .now) (start .pre))
 
-write-all-requires : tie.Need-write-all-requires
-write-all-requires c κs = search needs
+put-out-requires : tie.Need-put-out-requires
+put-out-requires c κs = search needs
 
 returns : tie.Need-returns
 returns c = search needs
 
 pub flush-spec : {M : Type 1} → statement M
-flush-spec = tie.close (tie.spec slice-aggregate-write-all write-all-requires returns)
+flush-spec = tie.close (tie.spec slice-aggregate-put-out put-out-requires returns)

@@ -13,15 +13,15 @@ shift-requires c κs = search needs
 fill-requires : tie.Need-fill-requires
 fill-requires c κs = search needs
 
-add-t12 : tie.Need-add-t12
-add-t12 c = search needs
+add-t13 : tie.Need-add-t13
+add-t13 c = search needs
 
 same-length : tie.Need-same-length
 same-length c = search needs
 
 returns : tie.Need-returns
 returns c =
-    let start = c .before .before .before .before .before .before .before .before .before in
+    let start = c .before .before .before .before .before .before .before .before .before .before in
     let moved = c .before .before .before .before .before .before .shift in
     let read = c .before .before .fill in
     filled-is (start .args .buf .now) (moved .last .0) (read .last .0) (start .args .p) (read .result) (start .pre)
@@ -29,4 +29,4 @@ returns c =
 
 pub refill-spec : {M : Type 1} → statement M
 refill-spec =
-    tie.close (tie.spec sub-unread shift-requires fill-requires add-t12 same-length returns)
+    tie.close (tie.spec sub-unread shift-requires fill-requires add-t13 same-length returns)

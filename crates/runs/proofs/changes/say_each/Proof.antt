@@ -14,11 +14,11 @@ abbrev μ-loop : tie.MeasureT-loop
 count-requires : tie.Need-count-requires Inv-loop μ-loop
 count-requires c κs = search needs
 
-slice-aggregate-text : tie.Need-slice-aggregate-text Inv-loop μ-loop
-slice-aggregate-text c = search needs
+slice-aggregate-line : tie.Need-slice-aggregate-line Inv-loop μ-loop
+slice-aggregate-line c = search needs
 
-text-requires : tie.Need-text-requires Inv-loop μ-loop
-text-requires c κs = search needs
+line-requires : tie.Need-line-requires Inv-loop μ-loop
+line-requires c κs = search needs
 
 returns : tie.Need-returns Inv-loop μ-loop
 returns c = search needs
@@ -48,8 +48,8 @@ say-each-spec =
     Inv-loop
     μ-loop
     count-requires
-    slice-aggregate-text
-    text-requires
+    slice-aggregate-line
+    line-requires
     returns
     loop-holds
     say-at-requires

@@ -6,10 +6,10 @@ use Rattle.runs.proofs.hexed.say_bytes.Statement.{statement}
 use Rattle.runs.proofs.hexed.say_bytes.Tie as tie
 
 abbrev Inv-loop : tie.InvT-loop
-Inv-loop s i₀ t3 i = i ≤ length s
+Inv-loop s i₀ i = i ≤ length s
 
 abbrev μ-loop : tie.MeasureT-loop
-μ-loop s i₀ t3 i = length s - i
+μ-loop s i₀ i = length s - i
 
 loop-holds : tie.Need-loop-holds Inv-loop μ-loop
 loop-holds c = search needs
@@ -32,11 +32,8 @@ loop-less c = search needs
 loop-again : tie.Need-loop-again Inv-loop μ-loop
 loop-again c = search needs
 
-slice-aggregate-text : tie.Need-slice-aggregate-text Inv-loop μ-loop
-slice-aggregate-text c = search needs
-
-text-requires : tie.Need-text-requires Inv-loop μ-loop
-text-requires c κs = search needs
+end-requires : tie.Need-end-requires Inv-loop μ-loop
+end-requires c κs = search needs
 
 returns : tie.Need-returns Inv-loop μ-loop
 returns c = search needs
@@ -54,6 +51,5 @@ say-bytes-spec =
     add-i
     loop-less
     loop-again
-    slice-aggregate-text
-    text-requires
+    end-requires
     returns)

@@ -17,6 +17,12 @@ loop-holds c = search needs
 shared-slice-read-if1 : tie.Need-shared-slice-read-if1 Inv-loop μ-loop
 shared-slice-read-if1 c = search needs
 
+add-are-bytes : tie.Need-add-are-bytes Inv-loop μ-loop
+add-are-bytes c = search needs
+
+are-bytes-requires : tie.Need-are-bytes-requires Inv-loop μ-loop
+are-bytes-requires c κs = search needs
+
 returns : tie.Need-returns Inv-loop μ-loop
 returns c = search needs
 
@@ -44,8 +50,8 @@ loop-less c = search needs
 loop-again : tie.Need-loop-again Inv-loop μ-loop
 loop-again c = search needs
 
-spaces-requires : tie.Need-spaces-requires Inv-loop μ-loop
-spaces-requires c κs = search needs
+count-requires : tie.Need-count-requires Inv-loop μ-loop
+count-requires c κs = search needs
 
 returns-3 : tie.Need-returns-3 Inv-loop μ-loop
 returns-3 c = search needs
@@ -58,6 +64,8 @@ are-fit-spec =
     μ-loop
     loop-holds
     shared-slice-read-if1
+    add-are-bytes
+    are-bytes-requires
     returns
     add-word
     word-requires
@@ -67,5 +75,5 @@ are-fit-spec =
     add-i
     loop-less
     loop-again
-    spaces-requires
+    count-requires
     returns-3)

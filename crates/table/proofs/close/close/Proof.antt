@@ -1,8 +1,8 @@
 -- The tab is taken off its row; a row that had this tab alone is cleared. Assumes nothing.
 use mathlib.Core.Path.{_≡_}
 use mathlib.Core.Logic.{_≢_}
-use Rattle.table.specs.Laws.Asked.{close-seat}
-use Rattle.table.specs.Steps.Close.{close-tab, close-row, close-unhang, close-leaves, close-ends}
+use Rattle.fields.specs.Laws.Asked.{close-seat}
+use Rattle.fields.specs.Steps.Close.{close-tab, close-row, close-unhang, close-leaves, close-ends}
 use native.Mathlib.Omega.{arith}
 use borrow.Author.Needs.{needs}
 use Rattle.table.proofs.close.close.Statement.{statement}

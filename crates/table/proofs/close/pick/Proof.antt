@@ -1,5 +1,5 @@
 -- The one write is the update's; a slot fits a byte. Assumes nothing.
-use Rattle.table.specs.Steps.Close.{pick-seat, picked-of}
+use Rattle.fields.specs.Steps.Close.{pick-seat, picked-of}
 use borrow.Author.Needs.{needs}
 use Rattle.table.proofs.close.pick.Statement.{statement}
 use Rattle.table.proofs.close.pick.Tie as tie

@@ -1,5 +1,5 @@
 -- A number that is no seat's shows no tenant; of a seat, the tenant is asked. Assumes nothing.
-use Rattle.table.specs.Steps.Find.{unlet}
+use Rattle.fields.specs.Steps.Find.{unlet}
 use native.Mathlib.Omega.{arith}
 use borrow.Author.Needs.{needs}
 use Rattle.table.proofs.find.is_let.Statement.{statement}

@@ -1,5 +1,5 @@
 -- The number 0 says that the row is free, and then it is not the one sought; else its number decides. Assumes nothing.
-use Rattle.table.specs.Steps.Find.{row-free, row-used}
+use Rattle.fields.specs.Steps.Find.{row-free, row-used}
 use borrow.Author.Needs.{needs}
 use Rattle.table.proofs.find.is_numbered.Statement.{statement}
 use Rattle.table.proofs.find.is_numbered.Tie as tie

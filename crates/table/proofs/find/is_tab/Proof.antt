@@ -1,5 +1,5 @@
 -- The serial 0 says that the slot is free, and then it is not the one sought; else its serial decides. Assumes nothing.
-use Rattle.table.specs.Steps.Find.{tab-free, tab-live}
+use Rattle.fields.specs.Steps.Find.{tab-free, tab-live}
 use borrow.Author.Needs.{needs}
 use Rattle.table.proofs.find.is_tab.Statement.{statement}
 use Rattle.table.proofs.find.is_tab.Tie as tie

@@ -2,7 +2,7 @@
 -- is the suffix. Assumes nothing.
 use native.Mathlib.Omega.{arith}
 use borrow.Author.Tests.{not-true, not-false}
-use Rattle.table.specs.Steps.Find.{with-free, with-other, with-own}
+use Rattle.fields.specs.Steps.Find.{with-free, with-other, with-own}
 use borrow.Author.Needs.{needs}
 use Rattle.table.proofs.find.is_with.Statement.{statement}
 use Rattle.table.proofs.find.is_with.Tie as tie

@@ -1,24 +1,21 @@
 -- The loop keeps: no slot up to k is the one sought. Assumes nothing.
-use mathlib.Core.Path.{_≡_}
-use Prim.Native.Nat.{_-_, _≤_}
-use native.Mathlib.Omega.{arith}
-use Rattle.table.specs.Base.{lowest}
-use Rattle.table.specs.Table.{view}
-use Rattle.table.specs.Laws.Lowest.{lowest-start, lowest-pass, lowest-stop, lowest-done}
-use Rattle.table.specs.Inner.{tabHas}
-use Rattle.table.specs.Steps.Find.{slot-is}
+use Prim.Native.Nat.{_-_}
+use Rattle.fields.specs.Table.{view}
+use Rattle.fields.specs.Inner.{tabHas}
+use Rattle.fields.specs.Laws.Lowest.{Sought, sought-start, sought-pass, sought-stop, sought-done}
+use Rattle.fields.specs.Steps.Find.{slot-is}
 use borrow.Author.Needs.{needs}
 use Rattle.table.proofs.find.slot_of.Statement.{statement}
 use Rattle.table.proofs.find.slot_of.Tie as tie
 
 abbrev Inv-loop : tie.InvT-loop
-Inv-loop t s n k₀ k = (k ≤ 10) × (lowest k (λ x. tabHas (view t) s n x) ≡ 0)
+Inv-loop t s n k₀ k = Sought 10 (λ x. tabHas (view t) s n x) k
 
 abbrev μ-loop : tie.MeasureT-loop
 μ-loop t s n k₀ k = 10 - k
 
 loop-holds : tie.Need-loop-holds Inv-loop μ-loop
-loop-holds c = (omega arith, lowest-start _)
+loop-holds c = sought-start _ _
 
 add-k : tie.Need-add-k Inv-loop μ-loop
 add-k c = search needs
@@ -28,22 +25,19 @@ is-tab-requires c κs = search needs
 
 returns : tie.Need-returns Inv-loop μ-loop
 returns c =
-    let turn = c .before .before in
-    let e = turn .before .loop .inv .1 in
-    (slot-is _ _ _ (lowest-stop _ _ _ _ e (turn .loop-test .taken) (c .before .is-tab .ensures) (c .if1 .taken)), omega arith)
+    let has = c .before .is-tab .ensures in
+    slot-is _ _ _ (sought-stop (c .before .before .before .loop .inv) (c .before .before .loop-test .taken) has (c .if1 .taken))
 
 loop-less : tie.Need-loop-less Inv-loop μ-loop
 loop-less c = search needs
 
 loop-again : tie.Need-loop-again Inv-loop μ-loop
 loop-again c =
-    let e = c .before .before .before .loop .inv .1 in
-    (omega arith, lowest-pass _ _ _ e (c .before .is-tab .ensures) (c .if1 .left))
+    let has = c .before .is-tab .ensures in
+    sought-pass (c .before .before .before .loop .inv) (c .before .before .loop-test .taken) has (c .if1 .left)
 
 returns-2 : tie.Need-returns-2 Inv-loop μ-loop
-returns-2 c =
-    let l = c .before .loop in
-    (slot-is _ _ _ (lowest-done _ _ _ (l .inv .1) (l .inv .0) (c .loop-test .left)), omega arith)
+returns-2 c = slot-is _ _ _ (sought-done (c .before .loop .inv) (c .loop-test .left))
 
 pub slot-of-spec : {M : Type 1} → statement M
 slot-of-spec =

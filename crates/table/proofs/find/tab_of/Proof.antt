@@ -1,5 +1,5 @@
 -- No tab is live in seat 0 or in one above 8; else the slot that is found decides. Assumes nothing.
-use Rattle.table.specs.Steps.Find.{tab-low, tab-high, tab-none, tab-some}
+use Rattle.fields.specs.Steps.Find.{tab-low, tab-high, tab-none, tab-some}
 use borrow.Author.Needs.{needs}
 use Rattle.table.proofs.find.tab_of.Statement.{statement}
 use Rattle.table.proofs.find.tab_of.Tie as tie

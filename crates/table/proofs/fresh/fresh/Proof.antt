@@ -2,9 +2,9 @@
 use mathlib.Core.Path.{_≡_, ap, _∙_}
 use Prim.Native.Nat.{_-_, _≤_}
 use lib.ListN.{length}
-use Rattle.table.specs.Table.{tableBytes}
-use Rattle.table.specs.Inner.{ordered}
-use Rattle.table.specs.Steps.Update.{ordered-none, fresh-is}
+use Rattle.fields.specs.Table.{tableBytes}
+use Rattle.fields.specs.Inner.{ordered}
+use Rattle.fields.specs.Steps.Update.{ordered-none, fresh-is}
 use native.Mathlib.Omega.{arith}
 use borrow.Author.Needs.{needs}
 use Rattle.table.proofs.fresh.fresh.Statement.{statement}

@@ -1,7 +1,7 @@
 -- The two writes are those of the next seat. Assumes nothing.
 use mathlib.Core.Path.{ap, _∙_}
-use Rattle.names.specs.Names.{tenantOf, separateOf}
-use Rattle.table.specs.Steps.Update.{ordered-more}
+use Rattle.terms.specs.Names.{tenantOf, optionsOf}
+use Rattle.fields.specs.Steps.Update.{ordered-more}
 use borrow.Author.Needs.{needs}
 use Rattle.table.proofs.fresh.order_next.Statement.{statement}
 use Rattle.table.proofs.fresh.order_next.Tie as tie
@@ -31,11 +31,11 @@ letting-of-requires-2 c κs =
     let c9 = c .before .before .before .before .before .before .before .before .before in
     c9 .pre .sound
 
-separate-of-requires : tie.Need-separate-of-requires
-separate-of-requires c κs = search needs
+options-of-requires : tie.Need-options-of-requires
+options-of-requires c κs = search needs
 
-set-separate-requires : tie.Need-set-separate-requires
-set-separate-requires c κs = search needs
+set-options-requires : tie.Need-set-options-requires
+set-options-requires c κs = search needs
 
 same-length : tie.Need-same-length
 same-length c = search needs
@@ -50,8 +50,8 @@ returns c =
     let start = c10 .before .before .before .before in
     ordered-more (start .args .book .now) (start .args .n) (start .pre .is)
     (c9 .tenant-of .ensures ∙ ap tenantOf (c10 .letting-of .ensures))
-    (c3 .separate-of .ensures ∙ ap separateOf (c4 .letting-of2 .ensures)) (c8 .set-tenant .ensures)
-    (c .before .before .set-separate .ensures)
+    (c3 .options-of .ensures ∙ ap optionsOf (c4 .letting-of2 .ensures)) (c8 .set-tenant .ensures)
+    (c .before .before .set-options .ensures)
 
 pub order-next-spec : {M : Type 1} → statement M
 order-next-spec =
@@ -64,7 +64,7 @@ order-next-spec =
     set-tenant-requires
     cast-letting-of-2
     letting-of-requires-2
-    separate-of-requires
-    set-separate-requires
+    options-of-requires
+    set-options-requires
     same-length
     returns)

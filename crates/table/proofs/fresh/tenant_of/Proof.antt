@@ -1,7 +1,7 @@
 -- Each case by its value. Assumes nothing.
 use mathlib.Core.Path.{sym, ap, _∙_}
-use Rattle.names.specs.Names.{tenantOf}
-use Rattle.names.specs.Laws.Order.{tenant-none, tenant-let}
+use Rattle.terms.specs.Names.{tenantOf}
+use Rattle.terms.specs.Laws.Order.{tenant-none, tenant-let}
 use borrow.Author.Needs.{needs}
 use Rattle.table.proofs.fresh.tenant_of.Statement.{statement}
 use Rattle.table.proofs.fresh.tenant_of.Tie as tie

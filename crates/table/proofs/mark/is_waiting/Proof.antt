@@ -1,5 +1,5 @@
 -- The number of the tab row says what is waited for. Assumes nothing.
-use Rattle.table.specs.Steps.Mark.{waits-is}
+use Rattle.fields.specs.Steps.Mark.{waits-is}
 use borrow.Author.Needs.{needs}
 use Rattle.table.proofs.mark.is_waiting.Statement.{statement}
 use Rattle.table.proofs.mark.is_waiting.Tie as tie

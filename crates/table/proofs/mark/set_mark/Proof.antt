@@ -1,6 +1,6 @@
 -- The tab waits for 3 at most, so what is written fits a byte. Assumes nothing.
-use Rattle.table.specs.Laws.Asked.{live-tab, waits-most}
-use Rattle.table.specs.Steps.Mark.{marked-of}
+use Rattle.fields.specs.Laws.Asked.{live-tab, waits-most}
+use Rattle.fields.specs.Steps.Mark.{marked-of}
 use native.Mathlib.Omega.{arith}
 use borrow.Author.Needs.{needs}
 use Rattle.table.proofs.mark.set_mark.Statement.{statement}
@@ -18,18 +18,16 @@ add-now c = search needs
 set-waiting-requires : tie.Need-set-waiting-requires
 set-waiting-requires c κs =
     let start = c .before .before .before .before .before in
-    (live-tab (start .pre .0), omega (arith, waits-most (start .pre .0), c .before .before .waiting .ensures, c .before .weight-of .ensures))
+    let most = waits-most (start .pre .0) in
+    (live-tab (start .pre .0), omega (arith, most, c .before .before .waiting .ensures, c .before .weight-of .ensures))
 
 same-length : tie.Need-same-length
 same-length c = search needs
 
 returns : tie.Need-returns
 returns c =
-    let c4 = c .before .before .before .before in
-    let c5 = c4 .before in
-    let c8 = c5 .before .before .before in
-    marked-of (c8 .args .m) (c5 .waiting .ensures .0) (c4 .weight-of .ensures .0)
-    (c .before .before .set-waiting .ensures)
+    let read = c .before .before .before .before in
+    marked-of _ (read .before .waiting .ensures .0) (read .weight-of .ensures .0) (c .before .before .set-waiting .ensures)
 
 pub set-mark-spec : {M : Type 1} → statement M
 set-mark-spec =

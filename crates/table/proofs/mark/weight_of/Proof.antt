@@ -1,7 +1,7 @@
 -- Each case by its weight. Assumes nothing.
 use mathlib.Core.Path.{refl, sym, ap, _∙_}
-use Rattle.table.specs.Table.{weight}
-use Rattle.table.specs.Steps.Mark.{weight-cookie, weight-document}
+use Rattle.fields.specs.Table.{weight}
+use Rattle.fields.specs.Steps.Mark.{weight-cookie, weight-document}
 use native.Mathlib.Omega.{arith}
 use borrow.Author.Needs.{needs}
 use Rattle.table.proofs.mark.weight_of.Statement.{statement}

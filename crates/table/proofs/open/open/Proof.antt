@@ -1,9 +1,9 @@
 -- A row that is found takes the tab; else one is made for it in the lowest free row, which a free slot leaves. Assumes nothing.
 use mathlib.Core.Path.{_≡_}
 use mathlib.Core.Logic.{_≢_}
-use Rattle.table.specs.Laws.Table.{table-facts}
-use Rattle.table.specs.Laws.Asked.{open-seat, open-slot}
-use Rattle.table.specs.Steps.Open.{join-hangs, open-joins, new-makes, new-hangs, open-renews}
+use Rattle.fields.specs.Laws.Table.{table-facts}
+use Rattle.fields.specs.Laws.Asked.{open-seat, open-slot}
+use Rattle.fields.specs.Steps.Open.{join-hangs, open-joins, new-makes, new-hangs, open-renews}
 use native.Mathlib.Omega.{arith}
 use borrow.Author.Needs.{needs}
 use Rattle.table.proofs.open.open.Statement.{statement}

@@ -1,7 +1,7 @@
 -- The table is sound, so the map has a bit for each live tab, and the trailing zeros of its complement lead to the lowest
 -- free slot. Assumes nothing.
-use Rattle.table.specs.Laws.Asked.{sound-seat}
-use Rattle.table.specs.Steps.Slots.{free-found}
+use Rattle.fields.specs.Laws.Asked.{sound-seat}
+use Rattle.fields.specs.Steps.Slots.{free-found}
 use borrow.Author.Needs.{needs}
 use Rattle.table.proofs.slots.free_slot.Statement.{statement}
 use Rattle.table.proofs.slots.free_slot.Tie as tie

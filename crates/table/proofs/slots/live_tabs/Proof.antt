@@ -1,6 +1,6 @@
 -- The table is sound, so the map has a bit for each live tab, and its ones are counted. Assumes nothing.
-use Rattle.table.specs.Laws.Asked.{sound-seat}
-use Rattle.table.specs.Steps.Slots.{live-count}
+use Rattle.fields.specs.Laws.Asked.{sound-seat}
+use Rattle.fields.specs.Steps.Slots.{live-count}
 use borrow.Author.Needs.{needs}
 use Rattle.table.proofs.slots.live_tabs.Statement.{statement}
 use Rattle.table.proofs.slots.live_tabs.Tie as tie

@@ -1,49 +1,35 @@
--- The loop keeps the lengths, and each turn passes a line feed or the end. Assumes nothing.
-use mathlib.Core.Path.{_≡_}
-use Prim.Native.Nat.{_-_}
-use lib.ListN.{length}
+-- The loop runs over the lines. Assumes nothing.
+use Prim.Native.Nat.{_≤_, _-_}
 use borrow.Author.Needs.{needs}
 use Rattle.table_runs.proofs.command.run.Statement.{statement}
 use Rattle.table_runs.proofs.command.run.Tie as tie
 
 abbrev Inv-loop : tie.InvT-loop
-Inv-loop script t₀ kept₀ at₀ t kept at = (length t ≡ length t₀) × (length kept ≡ length kept₀)
+Inv-loop script t₀ kept₀ lines k₀ t kept k = k ≤ lines
 
 abbrev μ-loop : tie.MeasureT-loop
-μ-loop script t₀ kept₀ at₀ t kept at = length script - at
+μ-loop script t₀ kept₀ lines k₀ t kept k = lines - k
+
+count-requires : tie.Need-count-requires Inv-loop μ-loop
+count-requires c κs = search needs
 
 loop-holds : tie.Need-loop-holds Inv-loop μ-loop
 loop-holds c = search needs
 
-end-of-requires : tie.Need-end-of-requires Inv-loop μ-loop
-end-of-requires c κs = search needs
-
-sub-obey : tie.Need-sub-obey Inv-loop μ-loop
-sub-obey c = search needs
-
-part-obey-start : tie.Need-part-obey-start Inv-loop μ-loop
-part-obey-start c = search needs
-
-part-obey-end : tie.Need-part-obey-end Inv-loop μ-loop
-part-obey-end c = search needs
+part-requires : tie.Need-part-requires Inv-loop μ-loop
+part-requires c κs = search needs
 
 obey-requires : tie.Need-obey-requires Inv-loop μ-loop
 obey-requires c κs = search needs
 
-add-at : tie.Need-add-at Inv-loop μ-loop
-add-at c = search needs
+add-k : tie.Need-add-k Inv-loop μ-loop
+add-k c = search needs
 
 loop-less : tie.Need-loop-less Inv-loop μ-loop
 loop-less c = search needs
 
 loop-again : tie.Need-loop-again Inv-loop μ-loop
 loop-again c = search needs
-
-same-length : tie.Need-same-length Inv-loop μ-loop
-same-length c = search needs
-
-same-length-2 : tie.Need-same-length-2 Inv-loop μ-loop
-same-length-2 c = search needs
 
 returns : tie.Need-returns Inv-loop μ-loop
 returns c = search needs
@@ -54,15 +40,11 @@ run-spec =
     (tie.spec
     Inv-loop
     μ-loop
+    count-requires
     loop-holds
-    end-of-requires
-    sub-obey
-    part-obey-start
-    part-obey-end
+    part-requires
     obey-requires
-    add-at
+    add-k
     loop-less
     loop-again
-    same-length
-    same-length-2
     returns)

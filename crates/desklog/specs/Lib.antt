@@ -1,7 +1,0 @@
--- What the contracts of the program's functions mean, and that its text is the log. The log itself is defined in the crate log,
--- what is held of a stream and what a read does in the crate reader.
-pub mod Begin
-pub mod Turn
-pub mod Turns
-pub mod Promises
-pub mod Laws

@@ -1,0 +1,31 @@
+-- The byte is written where the field lies. Assumes nothing.
+use Rattle.fields.specs.Steps.Layout.{wrote, tabs-lies}
+use borrow.Author.Needs.{needs}
+use Rattle.fields.proofs.layout.row_fields.set_tabs.Statement.{statement}
+use Rattle.fields.proofs.layout.row_fields.set_tabs.Tie as tie
+
+row-at-requires : tie.Need-row-at-requires
+row-at-requires c κs = search needs
+
+add-put-one : tie.Need-add-put-one
+add-put-one c = search needs
+
+cast-put-one : tie.Need-cast-put-one
+cast-put-one c = search needs
+
+put-one-requires : tie.Need-put-one-requires
+put-one-requires c κs = search needs
+
+same-length : tie.Need-same-length
+same-length c = search needs
+
+returns : tie.Need-returns
+returns c =
+    let start = c .before .before .before .before .before .before in
+    let lies = tabs-lies (start .pre .0 .row) (c .before .before .before .row-at .ensures .0) in
+    wrote (start .pre .0 .long) lies (c .before .before .put-one .ensures)
+
+pub set-tabs-spec : {M : Type 1} → statement M
+set-tabs-spec =
+    tie.close
+    (tie.spec row-at-requires add-put-one cast-put-one put-one-requires same-length returns)

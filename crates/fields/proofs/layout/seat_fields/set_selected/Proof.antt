@@ -1,0 +1,31 @@
+-- The byte is written where the field lies. Assumes nothing.
+use Rattle.fields.specs.Steps.Layout.{wrote, selected-lies}
+use borrow.Author.Needs.{needs}
+use Rattle.fields.proofs.layout.seat_fields.set_selected.Statement.{statement}
+use Rattle.fields.proofs.layout.seat_fields.set_selected.Tie as tie
+
+seat-at-requires : tie.Need-seat-at-requires
+seat-at-requires c κs = search needs
+
+add-put-one : tie.Need-add-put-one
+add-put-one c = search needs
+
+cast-put-one : tie.Need-cast-put-one
+cast-put-one c = search needs
+
+put-one-requires : tie.Need-put-one-requires
+put-one-requires c κs = search needs
+
+same-length : tie.Need-same-length
+same-length c = search needs
+
+returns : tie.Need-returns
+returns c =
+    let start = c .before .before .before .before .before .before in
+    let lies = selected-lies (start .pre .0 .seat) (c .before .before .before .seat-at .ensures .0) in
+    wrote (start .pre .0 .long) lies (c .before .before .put-one .ensures)
+
+pub set-selected-spec : {M : Type 1} → statement M
+set-selected-spec =
+    tie.close
+    (tie.spec seat-at-requires add-put-one cast-put-one put-one-requires same-length returns)

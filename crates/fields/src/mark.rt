@@ -1,0 +1,5 @@
+// What a tab may wait for.
+pub enum Mark {
+    Cookie,
+    Document,
+}

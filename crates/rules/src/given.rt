@@ -1,7 +1,0 @@
-// A step's answer: the document's number, how many actions were given and how many bytes they have.
-
-pub struct Given {
-    pub number: u8,
-    pub actions: u8,
-    pub written: u16,
-}

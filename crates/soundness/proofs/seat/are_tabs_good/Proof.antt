@@ -1,0 +1,54 @@
+-- The loop keeps: the slots up to k are good. Assumes nothing.
+use Prim.Native.Nat.{_-_}
+use borrow.Author.Tests.{not-true, not-false}
+use Rattle.fields.specs.Table.{view}
+use Rattle.fields.specs.Inner.{tabGood}
+use Rattle.fields.specs.Laws.Each.{Passed, passed-start, passed-on, passed-fail, passed-done}
+use borrow.Author.Needs.{needs}
+use Rattle.soundness.proofs.seat.are_tabs_good.Statement.{statement}
+use Rattle.soundness.proofs.seat.are_tabs_good.Tie as tie
+
+abbrev Inv-loop : tie.InvT-loop
+Inv-loop t s most k₀ k = Passed 10 (λ x. tabGood (view t) s x) k
+
+abbrev μ-loop : tie.MeasureT-loop
+μ-loop t s most k₀ k = 10 - k
+
+loop-holds : tie.Need-loop-holds Inv-loop μ-loop
+loop-holds c = passed-start _ _
+
+add-k : tie.Need-add-k Inv-loop μ-loop
+add-k c = search needs
+
+is-tab-good-requires : tie.Need-is-tab-good-requires Inv-loop μ-loop
+is-tab-good-requires c κs = search needs
+
+returns : tie.Need-returns Inv-loop μ-loop
+returns c =
+    let good = c .before .is-tab-good .ensures in
+    passed-fail (c .before .before .before .loop .inv) (c .before .before .loop-test .taken) good (not-true _ (c .if1 .taken))
+
+loop-less : tie.Need-loop-less Inv-loop μ-loop
+loop-less c = search needs
+
+loop-again : tie.Need-loop-again Inv-loop μ-loop
+loop-again c =
+    let good = c .before .is-tab-good .ensures in
+    passed-on (c .before .before .before .loop .inv) (c .before .before .loop-test .taken) good (not-false _ (c .if1 .left))
+
+returns-2 : tie.Need-returns-2 Inv-loop μ-loop
+returns-2 c = passed-done (c .before .loop .inv) (c .loop-test .left)
+
+pub are-tabs-good-spec : {M : Type 1} → statement M
+are-tabs-good-spec =
+    tie.close
+    (tie.spec
+    Inv-loop
+    μ-loop
+    loop-holds
+    add-k
+    is-tab-good-requires
+    returns
+    loop-less
+    loop-again
+    returns-2)
