@@ -11,7 +11,7 @@ use Rattle.fields.specs.Rule.View.{View, Field, tenant, options, selecte
 use Rattle.fields.specs.Rule.View.{number, owner, tabs, size, rowZero, letter, seatsAt, rowsAt, last}
 use Rattle.fields.specs.Rule.Update.{Write, _≔_, nameOfRow}
 
--- fields are told apart by their kind, in the order above, and by the two numbers they have at most
+-- fields are told apart by their kind, in the order of Rule.View, and by the two numbers they have at most
 unfoldable pub kind : Field → ℕ
 kind (tenant s) = 0
 kind (options s) = 1

@@ -1,4 +1,4 @@
-// The questions to the names crate, and the line with the answer to one.
+// The questions to the names layer, and the line with the answer to one.
 use crate::into;
 use crate::seat;
 use crate::shape::DOT;

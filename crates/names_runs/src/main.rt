@@ -1,4 +1,4 @@
-// The boundaries of the names crate, run: a script of questions on standard input, and a line with the answer to each.
+// The boundaries of the names layer, run: a script of questions on standard input, and a line with the answer to each.
 mod answer;
 mod command;
 mod into;

@@ -1,4 +1,4 @@
--- What leaves this crate of the definitions over time, shut as in Rules. Assumes nothing.
+-- What leaves this crate of the definitions over time, shut as in Sheet. Assumes nothing.
 pub use Rattle.rules.specs.Rule.Call.{Call, step, start, table, event, actions, left, Past, newest, older, partyOf, idOf}
 pub use Rattle.rules.specs.Rule.Call.{tagOf, payloadOf, isFrame, sends, carried, among, reaches, latest, times, typed}
 pub use Rattle.rules.specs.Rule.Call.{asks, pending}

@@ -1,4 +1,4 @@
-// The updates of the table crate, each done where nothing stands against it. The answer is what does, or 0.
+// The updates of the table layer, each done where nothing stands against it. The answer is what does, or 0.
 use crate::shape::CLOSE;
 use crate::shape::MARK;
 use crate::shape::OPEN;

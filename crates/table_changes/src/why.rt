@@ -1,4 +1,4 @@
-// What stands against an update: each condition that the table crate asks of its callers, tested. 0 says that nothing does.
+// What stands against an update: each condition that the table layer asks of its callers, tested. 0 says that nothing does.
 use fields::layout::is_spent;
 use runs::dot::has_dot;
 use soundness::tab::is_live;

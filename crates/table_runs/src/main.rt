@@ -1,4 +1,4 @@
-// The boundaries of the table crate, run: a script of commands on standard input, and what came of each.
+// The boundaries of the table layer, run: a script of commands on standard input, and what came of each.
 mod ask;
 mod command;
 mod poke;

@@ -1,6 +1,6 @@
 -- The meaning of the crates terms and names, in reading order.
 --   Base    the words that definitions are written in
---   Rule    the definitions, to be held beside document 01: Name, Under, Order, Listed, Book, Suffix
+--   Rule    the definitions, to be held beside document 01: Num, Name, Under, Order, Listed, Book, Suffix
 --   Marked  P1 to P12 of the document, one table under one theorem
 --   Laws    what follows from the definitions, for every layer
 -- A reader has to believe Base and Rule; the rest is proved. Rule is no `pub mod`: inside specs/ its definitions are open to
