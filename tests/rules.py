@@ -11,7 +11,8 @@ import sys
 
 sys.dont_write_bytecode = True
 from checks import check, closing
-from specs import (ROOT, SPECS, WORD, called, defining, files_in, line_of, names_in, number, read, section, shown, stands, tables)
+from specs import (ROOT, SPECS, WORD, called, defining, files_in, line_of, names_in, number, read, section, shown, stands, tables,
+                   theorem_rows)
 
 RULES, TRUST, README = 'docs/RULES.md', 'docs/TRUST.md', 'README.md'
 PLACE = r'\(([a-z_]+)/([A-Za-z]+(?:/[A-Za-z]+)*)\)'
@@ -119,22 +120,13 @@ def reading(text):
 
 def theorems(text):
     """A theorem of a table stands where the line above the table says, or in the file named behind it."""
-    rows, files, crate = 0, [], ''
-    for part in text.split('\n\n'):
-        if not part.startswith('|'):
-            files = files_in(TRUST, line_of(part))
-            crate = '/'.join(files[0].relative_to(ROOT).parts[:3]) if files else ''
-            for name in names_in(line_of(part)) if files else []:
-                stands(TRUST, name, files)
-            continue
-        for names, meaning in next(tables(part))[1:]:
-            own = files_in(TRUST, names, crate) or files
-            for name in names_in(names.split(' in ')[0]):
-                stands(TRUST, name, own)
-            for name in names_in(meaning):
-                called(TRUST, name)
-            rows += 1
-    check(f'{TRUST} has tables', rows > 50, rows)
+    rows = list(theorem_rows(TRUST, text))
+    for names, files, meaning in rows:
+        for name in names:
+            stands(TRUST, name, files)
+        for name in names_in(meaning):
+            called(TRUST, name)
+    check(f'{TRUST} has tables', len(rows) > 5, len(rows))
 
 
 def promised(text):
@@ -148,6 +140,7 @@ def promised(text):
 for part in (numbered, cited, laid_out, in_header, example):
     part(read(RULES))
 reading(section(read(TRUST), 'In reading order'))
-theorems(section(read(TRUST), 'What is proved beyond the functions'))
+for title in ('What is proved beyond the functions', 'Laws that the layers cite'):
+    theorems(section(read(TRUST), title))
 promised(section(read(README), 'What is promised'))
 closing()

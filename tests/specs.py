@@ -68,15 +68,18 @@ def names_in(text):
     return re.findall(r'`([\w′:-]+)`', re.sub(r'"[^"]*"', '', text))
 
 
-def files_in(who, text, crate=''):
-    """The files of specs that a text names: by their paths, and below a folder. A short path is of the crate before it."""
-    files = []
+def places_in(who, text, crate=''):
+    """The files and folders that a text names by their paths. A short path is of the crate before it."""
     for path in re.findall(r'`([\w/]+(?:\.antt|\.rt|/))`', text):
         crate = '/'.join(path.split('/')[:3]) if path.startswith('crates/') else crate
         place = ROOT / (path if path.startswith('crates/') else f'{crate}/{path}')
         check(f'{who}: {path} is not there', place.exists())
-        files += [file for file in SPECS if file == place or place in file.parents]
-    return files
+        yield place
+
+
+def files_in(who, text, crate=''):
+    """The files of specs that a text names: by their paths, and below a folder."""
+    return [file for place in places_in(who, text, crate) for file in SPECS if file == place or place in file.parents]
 
 
 def tables(text):
@@ -94,3 +97,18 @@ def number(cell):
 
 def section(text, title):
     return text.split(f'\n## {title}\n', 1)[1].split('\n## ', 1)[0]
+
+
+def theorem_rows(who, text):
+    """The rows of the tables of theorems on a page: the names of each, the files they may stand in, which the line above the table
+    says or the row itself, and their meaning in words."""
+    files, crate = [], ''
+    for part in text.split('\n\n'):
+        if part.startswith('|'):
+            for names, meaning in next(tables(part))[1:]:
+                yield names_in(names.split(' in ')[0]), files_in(who, names, crate) or files, meaning
+        else:
+            files = files_in(who, line_of(part))
+            crate = '/'.join(files[0].relative_to(ROOT).parts[:3]) if files else ''
+            for name in names_in(line_of(part)) if files else []:
+                stands(who, name, files)

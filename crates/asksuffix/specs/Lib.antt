@@ -3,10 +3,12 @@
 --   Rule      the definitions, to be held beside what --help says
 --   Turn      what a turn of the program leaves
 --   Turns     a run, turn by turn
+--   Streams   which chunks reads can bring, and how far a run over them comes
 --   Promises  what is promised of the program
 --   Laws      what follows from the definitions, for the proofs of its functions
 pub mod Rule
 pub mod Turn
 pub mod Turns
+pub mod Streams
 pub mod Promises
 pub mod Laws

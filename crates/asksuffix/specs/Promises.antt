@@ -4,41 +4,48 @@ use mathlib.Core.Path.{_≡_, sym, ap, _∙_}
 use mathlib.Core.Bool.{true, false, true≢false}
 use mathlib.Core.List.{List, [], _∷_, _++_, append-nil}
 use native.Mathlib.Omega.{arith}
-use lib.ListN.{length, take}
+use lib.ListN.{length}
+use Rattle.terms.specs.Base.{Bytes}
 use Rattle.terms.specs.Names.{soundBook}
 use Rattle.terms.specs.Laws.Bools.{fails}
 use Rattle.log.specs.Log.{joined}
-use Rattle.log.specs.Laws.Stream.{joined-none, joined-more}
 use Rattle.log.specs.Laws.Books.{no-book}
-use Rattle.reader.specs.Held.{outset, held}
+use Rattle.reader.specs.Held.{held}
 use Rattle.asksuffix.specs.Rule.Hosts.{hostWhole, hosts, laidHosts}
 use Rattle.asksuffix.specs.Rule.Answers.{mostText, answerLine, answerLines, answers}
-use Rattle.asksuffix.specs.Turn.{HostAnswered, Turn, answered, stopped, read}
-use Rattle.asksuffix.specs.Turns.{AskRun, ends, goes}
+use Rattle.asksuffix.specs.Turn.{AskBuffers, HostAnswered, Turn, answered, stopped, read}
+use Rattle.asksuffix.specs.Turns.{AskTurns, AskRun}
 use Rattle.asksuffix.specs.Laws.Hosts.{hosts-cut}
-use Rattle.asksuffix.specs.Laws.Laid.{hosts-before, hosts-all, Bytes, Laid, laid-again}
+use Rattle.asksuffix.specs.Laws.Laid.{hosts-before, hosts-all, laid-again}
+use Rattle.asksuffix.specs.Rule.Hosts.{HostsLaid}
 use Rattle.asksuffix.specs.Laws.Line.{length-line, line-unsound}
-use Rattle.asksuffix.specs.Laws.Answers.{answers-cut, turn-says, done-cut}
+use Rattle.asksuffix.specs.Laws.Answers.{turns-answers, run-answers}
+use Rattle.asksuffix.specs.Laws.Runs.{goes-all, runs-sized}
+use Rattle.asksuffix.specs.Streams.{BroughtEach, SizedEach, AskGoes, AskRuns}
 use Rattle.reader.specs.declared.place.Place.{Place}
 
 -- ---- a run
 
-turns-say : {b buf o : List ℕ} {p : Place} {cs : List (List ℕ)} {x : List ℕ} → AskRun b buf o p cs x
-    → x ≡ answers b (held buf p ++ joined cs)
-turns-say {b} (ends {buf′ = buf′} {o′ = o′} {p′ = p′} t d) =
-    let none = answers-cut b (held buf′ p′) (done-cut t d) in
-    let text = take (p′ .filled) o′ in
-    rw (joined-more, joined-none)
-    (sym (append-nil text) ∙ ap (λ (y : List ℕ). text ++ y) (sym none ∙ ap (answers b) (sym (append-nil (held buf′ p′))))
-    ∙ turn-says t [])
-turns-say {b} (goes {o′ = o′} {p′ = p′} {cs = cs} t d r) =
-    rw joined-more (ap (λ (y : List ℕ). take (p′ .filled) o′ ++ y) (turns-say r) ∙ turn-says t (joined cs))
+-- Whether or not they came to the end, what turns said, and then the answers to what is held and to whatever z is still to come,
+-- are the answers to what they read and to z.
+pub turns-say : {b buf o : List ℕ} {cs : List (List ℕ)} {x buf′ o′ : List ℕ} {p′ : Place} → AskTurns b buf o cs x buf′ o′ p′
+    → (z : List ℕ) → x ++ answers b (held buf′ p′ ++ z) ≡ answers b (joined cs ++ z)
+turns-say r z = turns-answers r z
 
 -- All that a run says, turn by turn, are the answers to the hosts of all that its reads brought, in whatever chunks.
-pub program-answers : {b buf o : List ℕ} {cs : List (List ℕ)} {x : List ℕ} → AskRun b buf o outset cs x
-    → x ≡ answers b (joined cs)
-unfolding held
-program-answers r = turns-say r
+pub program-answers : {b buf o : List ℕ} {cs : List (List ℕ)} {x : List ℕ} → AskRun b buf o cs x → x ≡ answers b (joined cs)
+program-answers r = run-answers (r .turns) (r .done)
+
+-- Every stream of bytes, however it is cut, has a run: to its end, or up to a chunk that no read can bring, since the buffer has no
+-- room for it beside what is held;
+pub runs-go : {b buf o : List ℕ} → AskBuffers buf o → (cs : List (List ℕ)) → BroughtEach cs → AskGoes b buf o cs
+runs-go ample cs some = goes-all ample cs some
+
+-- and one to its end where no chunk has more bytes than the buffer has beside the 65,536 of a host that may be held in part.
+pub runs-exist : {b buf o : List ℕ} → AskBuffers buf o → (cs : List (List ℕ)) → SizedEach buf cs → AskRuns b buf o cs
+runs-exist ample cs sized = runs-sized ample cs sized
+
+-- ---- a turn
 
 -- Where a whole host is held a turn answers it, whether or not more has come: its line does not wait for the next host.
 pub turn-answers : {buf b o : List ℕ} {p : Place} {buf′ o′ : List ℕ} {p′ : Place} → Turn buf b o p buf′ o′ p′
@@ -85,7 +92,7 @@ pub hosts-first : (l : List (List ℕ)) (z : List ℕ) → hosts (laidHosts l ++
 hosts-first l z = hosts-before l z
 
 -- The hosts of a stream of bytes, laid end to end again, are the stream up to where its end cuts one short: none is passed over.
-pub hosts-laid : (s : List ℕ) → Bytes s → Laid s (hosts s)
+pub hosts-laid : (s : List ℕ) → Bytes s → HostsLaid s (hosts s)
 hosts-laid s k = laid-again s k
 
 -- A host that the end of the stream cuts short is not answered, and those before it are.

@@ -9,7 +9,7 @@ use native.Mathlib.Nat.{le-of-eq, le-trans}
 use native.Mathlib.Omega.{arith}
 use lib.ListN.{length}
 use Rattle.terms.specs.Names.{soundBook}
-use Rattle.terms.specs.Base.{Range}
+use Rattle.terms.specs.Base.{Range, Bytes}
 use Rattle.fields.specs.Base.{sum}
 use Rattle.fields.specs.declared.mark.Mark.{Mark}
 use Rattle.fields.specs.Table.{selected, opens, serial, row, tabs, last, tableBytes}
@@ -18,7 +18,8 @@ use Rattle.fields.specs.Table.{processWith, freeSlot, freeProcess, HasSl
 use Rattle.fields.specs.Table.{picked, closed, waits, marked, unmarked}
 use Rattle.fields.specs.Inner.{form}
 use Rattle.fields.specs.Laws.Each.{same-or}
-use Rattle.fields.specs.Laws.Cover.{Covered, Bytes, form-covers, view-ext}
+use Rattle.fields.specs.Laws.Cover.{form-covers, view-ext}
+use Rattle.fields.specs.Rule.Layout.{Covered}
 use Rattle.fields.specs.Laws.Room.{room, opens-sum-le, last-next}
 use Rattle.fields.specs.Laws.Table.{table-facts}
 use Rattle.fields.specs.Laws.Can.{numbers-enough}

@@ -12,8 +12,8 @@ ghost use Prim.Native.Nat.{_+_, _*_, _≤_};
 ghost use lib.ListN.{length};
 ghost use Rattle.terms.specs.Names.{num};
 ghost use Rattle.log.specs.Log.{number, payload, eventLine, actionLine, startLine, actionLines};
-ghost use Rattle.log.specs.Inner.{Holds, frameAt, framesOf, Holding, linesOf};
-ghost use Rattle.rules.specs.Sheet.{actionsIn, bytesIn};
+ghost use Rattle.log.specs.Inner.{Holds, Holding, linesOf};
+ghost use Rattle.rules.specs.Sheet.{frameAt, framesOf, actionsIn, bytesIn};
 ghost use Rattle.rules.specs.Inner.{Wrote};
 
 // A number behind its space.

@@ -10,8 +10,8 @@
 --   Taken    ready-first, ready-all: those that are ready are the first of the stream's events, and when they are all
 --   Reads    log-append, reads-log: the log of a stream that comes in chunks
 --   Serves   a reader in the order of the program
+--   Chunk    joined-then, chunk-empty, chunk-some: what reads brought, chunk by chunk
 --   Books    unsound-log, no-book: a book of a length that no sound book has
---   Frames   frames-held, frames-read: frames that lie end to end are read back
 --   Holding  answer-held, answer-lines: what a step's answer gives, and the lines written from it
 --   Give     gave-held, gave-room, gave-one: one event given to the kernel
 --   Serving  many-none, many-more: events given one after another
@@ -33,8 +33,8 @@ pub mod Count
 pub mod Taken
 pub mod Reads
 pub mod Serves
+pub mod Chunk
 pub mod Books
-pub mod Frames
 pub mod Holding
 pub mod Give
 pub mod Serving

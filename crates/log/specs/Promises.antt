@@ -13,13 +13,13 @@ use Rattle.rules.specs.Sheet.{startOf}
 use Rattle.log.specs.Log.{events, joined, startLine, logFrom, logOf, Reads}
 use Rattle.log.specs.Laws.Stream.{events-nil}
 use Rattle.log.specs.Laws.Parted as parts
-use Rattle.log.specs.Laws.Parted.{Alone, Parted}
-use Rattle.log.specs.Laws.Laid.{Laid, parted-laid, parted-frames, parted-sized, frames-before, frames-all}
+use Rattle.log.specs.Rule.Parted.{Alone, Parted, Laid}
+use Rattle.log.specs.Laws.Laid.{parted-laid, parted-frames, parted-sized, frames-before, frames-all}
 use Rattle.log.specs.Laws.Reads as readers
 use Rattle.log.specs.Laws.Reads.{stream-log, log-started, log-refused}
 use Rattle.log.specs.Laws.Books.{unsound-log, no-book}
 use Rattle.log.specs.Laws.Serves as servers
-use Rattle.log.specs.Laws.Serves.{Serves, ServesSome}
+use Rattle.log.specs.Rule.Reading.{Serves, ServesSome}
 
 -- ---- the events of a stream
 

@@ -1,5 +1,6 @@
--- The definitions. To be held beside document 01: Stream, Line, Log. What the functions leave: Written, Reading, Serving.
+-- The definitions. To be held beside document 01: Stream, Parted, Line, Log. What the functions leave: Written, Reading, Serving.
 pub mod Stream
+pub mod Parted
 pub mod Line
 pub mod Log
 pub mod Written

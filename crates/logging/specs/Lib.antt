@@ -3,5 +3,7 @@
 pub mod Begin
 pub mod Turn
 pub mod Turns
+pub mod Ran
+pub mod Streams
 pub mod Promises
 pub mod Laws

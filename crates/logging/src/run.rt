@@ -10,6 +10,7 @@ ghost use Prim.Native.Nat.{_≤_};
 ghost use lib.ListN.{length};
 ghost use Rattle.logging.specs.Turn.{LogBuffers};
 ghost use Rattle.logging.specs.Begin.{Begun};
+ghost use Rattle.logging.specs.Ran.{LogRan, Logged};
 
 // A proved loop has to end, and nothing says that a stream does: turns are counted down, from a number that no run uses up.
 const TURNS: u64 = 144115188075855872;
@@ -29,6 +30,7 @@ fn begin(table: &mut [u8], book: &[u8], out: &mut [u8]) -> usize
 
 fn run(buf: &mut [u8], table: &mut [u8], book: &[u8], out: &mut [u8], who: &[u8])
     requires { ⌜ LogBuffers (now buf) (now out) ⌝ }
+    ensures { λ _. ⌜ LogRan (now (book .entry)) (now (buf .entry)) (now (table .entry)) (now (out .entry)) (now (buf .exit)) (now (table .exit)) (now (out .exit)) ⌝ }
 {
     let mut p = Place {
         place: 0,
@@ -55,6 +57,7 @@ fn run(buf: &mut [u8], table: &mut [u8], book: &[u8], out: &mut [u8], who: &[u8]
 // The whole log, of a book and of standard input.
 pub fn log(buf: &mut [u8], table: &mut [u8], book: &[u8], out: &mut [u8], who: &[u8])
     requires { ⌜ LogBuffers (now buf) (now out) ⌝ }
+    ensures { λ _. ⌜ Logged (now (book .entry)) (now (buf .entry)) (now (table .entry)) (now (out .entry)) (now (buf .exit)) (now (table .exit)) (now (out .exit)) ⌝ }
 {
     let said = begin(table, book, out);
     if said == 0 {

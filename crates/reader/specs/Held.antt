@@ -32,3 +32,12 @@ pub record Filled (buf : List ℕ) (p : Place) (buf′ : List ℕ) (p′ : Place
 -- what it brought
 unfoldable pub came : List ℕ → Place → List ℕ → Place → List ℕ
 came buf p buf′ p′ = drop (length (held buf p)) (held buf′ p′)
+
+-- a read that brings c
+pub record Comes (buf : List ℕ) (p : Place) (c : List ℕ) : Type 0 where
+  pub buf′ : List ℕ
+  pub p′ : Place
+  pub filled : Filled buf p buf′ p′
+  pub bytes : came buf p buf′ p′ ≡ c
+  pub seen : p′ .ended ≡ eqb (length c) 0
+  pub as-long : length buf′ ≡ length buf

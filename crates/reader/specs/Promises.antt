@@ -1,12 +1,13 @@
 -- What is promised of a read, whatever it brings. Assumes nothing.
-use Prim.Native.Nat.{ℕ, _≤_}
+use Prim.Native.Nat.{ℕ, _+_, _≤_}
 use mathlib.Core.Bool.{true}
 use mathlib.Core.Path.{_≡_, sym, ap, _∙_}
 use mathlib.Core.List.{List, _++_, append-nil}
 use lib.ListN.{length, drop, take-append-drop, drop-of-length-le}
 use native.Mathlib.Omega.{arith}
 use borrow.Author.Tests.{eqb-true}
-use Rattle.reader.specs.Held.{held, Filled, came}
+use Rattle.reader.specs.Held.{Sound, held, Filled, came, Comes}
+use Rattle.reader.specs.Laws.Comes as comes
 use Rattle.reader.specs.declared.place.Place.{Place}
 
 -- What is held after it is what was held, and then what came;
@@ -26,3 +27,8 @@ none-came {buf} {buf′} {p} {p′} f e =
     let n = eqb-true (length h′) (length h) (sym (f .ended=) ∙ e) in
     let short : length h′ ≤ length h = omega arith in
     held-then f ∙ ap (λ (l : List ℕ). h ++ l) (drop-of-length-le h′ short) ∙ append-nil h
+
+-- Any bytes that the buffer has room for beside what is held may come.
+pub may-come : (buf : List ℕ) (p : Place) (c : List ℕ) → Sound p (length buf) → length (held buf p) + length c ≤ length buf
+    → Comes buf p c
+may-come buf p c s room = comes.may-come buf p c s room

@@ -7,7 +7,7 @@ use mathlib.Core.List.{List, [], _∷_}
 use lib.ListN.{length}
 use lib.Dec.{eqb}
 use Rattle.terms.specs.Names.{folded, soundBook}
-use Rattle.fields.specs.Table.{View, tenant, opens, mostOpens, view, tabId, soundTable, live, ownerAt, processWith, waits, Openable}
+use Rattle.fields.specs.Table.{tenant, view, soundTable, live, ownerAt, processWith, waits, Openable}
 use Rattle.fields.specs.declared.mark.Mark.{Mark}
 use Rattle.rules.specs.Rule.Frame.{Frame, frames, over}
 use Rattle.rules.specs.Rule.Desk.{Desk, Reply, changed}

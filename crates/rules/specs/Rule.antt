@@ -1,6 +1,7 @@
 -- The definitions, in reading order. To be held beside document 01:
 pub mod Frame
 pub mod Event
+pub mod Fits
 pub mod Action
 pub mod Desk
 pub mod Allow
@@ -13,3 +14,6 @@ pub mod History
 pub mod Demand
 pub mod Quark
 pub mod Ids
+pub mod Whence
+pub mod Own
+pub mod Response

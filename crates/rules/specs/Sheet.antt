@@ -1,6 +1,8 @@
 -- What leaves this crate: the definitions of Rule under their names, shut. Assumes nothing.
-pub use Rattle.rules.specs.Rule.Frame.{be, Frame, framed, head, bytes, frames, over}
+pub use Rattle.rules.specs.Rule.Frame.{be, Frame, framed, head, bytes, frames, over, frameAt, framesOf, Narrow, AllNarrow}
 pub use Rattle.rules.specs.Rule.Event.{part, seatFrame, tabFrame, eventFrame, readingOf}
+pub use Rattle.rules.specs.Rule.Fits.{FitsTag, key-sent, mouse-sent, open-sent, display-sent, socket-sent, url-sent}
+pub use Rattle.rules.specs.Rule.Fits.{store-sent, retrieve-sent, result-sent, document-sent, ReadAs}
 pub use Rattle.rules.specs.Rule.Action.{bar, paint, go, render, key, mouse, error, document, cookie, set, get, fetch}
 pub use Rattle.rules.specs.Rule.Action.{startTab, stopTab, startProcess, stopProcess, openSocket}
 pub use Rattle.rules.specs.Rule.Desk.{Desk, desk, deskAt, Change, stay, openTab, selectTab, closeTab, setMark, clearMark}

@@ -11,14 +11,12 @@
 --   Pending       what a call does to what is due to a tab
 --   Told          what a table tells of what is due, and how every update goes on telling it
 --   Waiting       history-cookie, history-document: what a tab waits for
---   Way           history-way: the cookie's way
 --   Demand        the other clauses
 -- The Quark paper:
 --   Bar           history-bar: what a seat's bar shows
---   Display       history-sockets, history-display: where sockets go, and who paints
---   Cookies       history-cookies: no cookie out of the suffix
 --   State         history-state, history-keys: what an event leaves alone
---   Response      response, response-book: what a step depends on
+--   Response      came: a step that was made is what the rules give; response, response-table, response-book
+--   Apart         non-interference
 -- Ids and answers:
 --   Moves         what starting and stopping ids comes to, tabs' and processes' alike
 --   Live          live tabs by their ids, and which are live after each update
@@ -29,8 +27,17 @@
 --   Address       where each kind of action may go
 --   Addressed     addressed: every action goes there
 --   Ids           tab-stops, process-stops: every stop names something started and not yet stopped
---   Documents     history-documents: no document comes that was not asked for
--- Forwarder is the worked history, step by step.
+-- What calls pass on, whence it came, and who can change what:
+--   Hung          a tab and the process that it hangs on, as the host was told
+--   Passed        history-way, history-cookies, history-sockets, history-display, history-documents
+--   Whence        history-whence, history-lone
+--   Another       what an update leaves alone
+--   Own           history-own
+-- The worked history:
+--   Forwarder       first-open: the desks that have opened no tab yet, and the first open of each
+--   ForwarderTab    own-first, own-opened: desk 1's tab
+--   ForwarderSteps  stores, gets, fetches, results, documents, closes: what comes of it
+--   ForwarderFacts  its bytes, and what its tables tell
 pub mod Induct
 pub mod Rows
 pub mod Same
@@ -42,13 +49,11 @@ pub mod Process
 pub mod Pending
 pub mod Told
 pub mod Waiting
-pub mod Way
 pub mod Demand
 pub mod Bar
-pub mod Display
-pub mod Cookies
 pub mod State
 pub mod Response
+pub mod Apart
 pub mod Moves
 pub mod Live
 pub mod Running
@@ -58,5 +63,12 @@ pub mod Stand
 pub mod Address
 pub mod Addressed
 pub mod Ids
-pub mod Documents
+pub mod Hung
+pub mod Passed
+pub mod Another
+pub mod Own
+pub mod Whence
 pub mod Forwarder
+pub mod ForwarderTab
+pub mod ForwarderSteps
+pub mod ForwarderFacts

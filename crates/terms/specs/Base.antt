@@ -1,9 +1,10 @@
--- The words that every definition is written in: a range, all of a list, one of a list, a rising list, equal bytes.
+-- The words that every definition is written in: a range, all of a list, one of a list, a rising list, bytes, equal bytes.
 -- They are open (`abbrev`, `unfoldable`): each says no more than its one line, and every layer computes with it.
 -- Assumes nothing.
-use Prim.Native.Nat.{ℕ, _≤_}
+use Prim.Native.Nat.{ℕ, _≤_, _<_}
 use mathlib.Core.Bool.{Bool, true, false, _&&_, _||_}
 use mathlib.Core.List.{List, [], _∷_}
+use lib.ListN.{getD}
 use lib.Dec.{leb, eqb}
 
 -- from lo to hi, both included
@@ -36,6 +37,10 @@ unfoldable pub lastOf : List (List ℕ) → List ℕ
 lastOf [] = []
 lastOf (l ∷ []) = l
 lastOf (l ∷ m ∷ ls) = lastOf (m ∷ ls)
+
+-- every one is a byte
+abbrev pub Bytes : List ℕ → Type 0
+Bytes s = (i : ℕ) → getD s i 0 < 256
 
 -- the same bytes
 unfoldable pub alike : List ℕ → List ℕ → Bool

@@ -1,16 +1,21 @@
 -- The answers to a stream, host by host, and what a turn says of them. Assumes nothing.
-use Prim.Native.Nat.{ℕ, _≤_}
+use Prim.Native.Nat.{ℕ}
 use mathlib.Core.Path.{_≡_, sym, ap, ap₂, _∙_}
 use mathlib.Core.Bool.{true, false, true≢false}
-use mathlib.Core.List.{List, [], _++_, append-assoc}
+use mathlib.Core.List.{List, [], _++_, append-nil, append-assoc}
 use native.Mathlib.Omega.{arith}
-use lib.ListN.{length, take, drop, length-drop, drop-of-length-le}
+use lib.ListN.{length, take, drop, length-drop}
 use Rattle.rules.specs.Laws.Over.{over-front}
+use Rattle.log.specs.Log.{joined}
+use Rattle.log.specs.Laws.Stream.{joined-none}
+use Rattle.log.specs.Laws.Chunk.{joined-then}
 use Rattle.reader.specs.Held.{held, came}
+use Rattle.reader.specs.Laws.Comes.{no-more}
 use Rattle.reader.specs.Promises.{held-then}
 use Rattle.asksuffix.specs.Rule.Hosts.{hostBytes, hostWhole, firstHost}
 use Rattle.asksuffix.specs.Rule.Answers.{answerLine, answerLines, answers}
 use Rattle.asksuffix.specs.Turn.{past, last, HostAnswered, Stopped, Turn, answered, stopped, read}
+use Rattle.asksuffix.specs.Turns.{AskTurns, none, more}
 use Rattle.asksuffix.specs.Laws.Hosts.{whole-append, first-append, rest-append, hosts-whole, hosts-cut}
 use Rattle.reader.specs.declared.place.Place.{Place}
 
@@ -37,14 +42,8 @@ line-is {buf} {b} {o} {p} w =
     ap₂ (λ (n : ℕ) (l : List ℕ). take n l) (ap (λ (q : Place). q .filled) (w .gave .moved)) (w .gave .text)
     ∙ over-front o (answerLine b (firstHost (held buf p)))
 
--- where nothing more is held than was, nothing came
-no-more : (buf : List ℕ) (p : Place) (buf′ : List ℕ) (p′ : Place) → length (held buf′ p′) ≤ length (held buf p)
-    → came buf p buf′ p′ ≡ []
-unfolding came
-no-more buf p buf′ p′ h = drop-of-length-le (held buf′ p′) h
-
 -- one that stops leaves what is held
-stopped-held : {buf o : List ℕ} {p : Place} {buf′ o′ : List ℕ} {p′ : Place} → Stopped buf o p buf′ o′ p′
+pub stopped-held : {buf o : List ℕ} {p : Place} {buf′ o′ : List ℕ} {p′ : Place} → Stopped buf o p buf′ o′ p′
     → held buf′ p′ ≡ held buf p
 unfolding held last
 stopped-held w = ap₂ held (w .same) (w .moved)
@@ -77,3 +76,30 @@ unfolding past
 done-cut (answered w) d = absurd (true≢false (sym d ∙ ap (λ (q : Place). q .done) (w .gave .moved)))
 done-cut (stopped w) d = ap hostWhole (stopped-held w) ∙ w .cut
 done-cut (read w) d = absurd (true≢false (sym d ∙ w .filled .done=))
+
+-- ---- turns
+
+pub turns-answers : {b buf o : List ℕ} {cs : List (List ℕ)} {x buf′ o′ : List ℕ} {p′ : Place} → AskTurns b buf o cs x buf′ o′ p′
+    → (z : List ℕ) → x ++ answers b (held buf′ p′ ++ z) ≡ answers b (joined cs ++ z)
+unfolding held
+turns-answers {b} none z = ap (λ (y : List ℕ). answers b (y ++ z)) (sym joined-none)
+turns-answers {b}
+    (more {cs = cs} {x = x} {buf₁ = buf₁} {p₁ = p₁} {buf₂ = buf₂} {o₂ = o₂} {p₂ = p₂} r on w) z =
+    let c = came buf₁ p₁ buf₂ p₂ in
+    append-assoc x (take (p₂ .filled) o₂) (answers b (held buf₂ p₂ ++ z)) ∙ ap (λ (y : List ℕ). x ++ y) (turn-says w z)
+    ∙ turns-answers r (c ++ z) ∙ ap (answers b) (sym (append-assoc (joined cs) c z))
+    ∙ ap (λ (y : List ℕ). answers b (y ++ z)) (sym (joined-then cs c))
+
+-- the last leaves no whole host
+last-cut : {b buf o : List ℕ} {cs : List (List ℕ)} {x buf′ o′ : List ℕ} {p′ : Place} → AskTurns b buf o cs x buf′ o′ p′
+    → p′ .done ≡ true → hostWhole (held buf′ p′) ≡ false
+last-cut none d = absurd (true≢false (sym d))
+last-cut (more r on w) d = done-cut w d
+
+pub run-answers : {b buf o : List ℕ} {cs : List (List ℕ)} {x buf′ o′ : List ℕ} {p′ : Place} → AskTurns b buf o cs x buf′ o′ p′
+    → p′ .done ≡ true → x ≡ answers b (joined cs)
+run-answers {b} {cs = cs} {x = x} {buf′ = buf′} {p′ = p′} r d =
+    let h = held buf′ p′ in
+    let nothing = answers-cut b h (last-cut r d) in
+    sym (append-nil x) ∙ ap (λ (y : List ℕ). x ++ y) (sym nothing ∙ ap (answers b) (sym (append-nil h))) ∙ turns-answers r []
+    ∙ ap (answers b) (append-nil (joined cs))

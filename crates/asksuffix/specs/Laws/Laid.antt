@@ -6,13 +6,15 @@ use mathlib.Core.Bool.{true, false}
 use mathlib.Core.List.{List, [], _∷_, _++_, append-assoc, append-nil}
 use native.Mathlib.Omega.{arith}
 use native.Mathlib.Nat.{le-refl}
-use lib.ListN.{length, getD, take, drop, length-append, take-append-drop}
+use lib.ListN.{length, take, drop, length-append, take-append-drop}
 use lib.Seq.{take-at, drop-at, take-add, length-take-le, getD-drop}
+use Rattle.terms.specs.Base.{Bytes}
 use Rattle.terms.specs.Laws.Bools.{cases}
 use Rattle.terms.specs.Names.{num}
 use Rattle.terms.specs.Laws.Num.{num-zero, num-suc}
 use Rattle.asksuffix.specs.Rule.Hosts.{hostBytes, hostWhole, firstHost, hosts, laidHost, laidHosts}
 use Rattle.asksuffix.specs.Laws.Hosts.{whole-short, whole-has, whole-in, shorter, hosts-nil, hosts-whole, hosts-cut}
+use Rattle.asksuffix.specs.Rule.Hosts.{HostsLaid}
 
 module _ (h z : List ℕ) where
   num-laid : num (laidHost h ++ z) 0 2 ≡ length h
@@ -56,9 +58,6 @@ hosts-all l =
 
 -- ---- the hosts of a stream, laid end to end again
 
-abbrev pub Bytes : List ℕ → Type 0
-Bytes s = (i : ℕ) → getD s i 0 < 256
-
 -- the first of them is the stream's front
 first-again : (s : List ℕ) → hostWhole s ≡ true → Bytes s → laidHost (firstHost s) ≡ take (hostBytes s) s
 unfolding laidHost firstHost hostBytes
@@ -75,17 +74,11 @@ first-again (x ∷ y ∷ r) w k =
     let low : length (take n r) % 256 ≡ y = omega arith in
     ap₂ (λ (a b : ℕ). a ∷ b ∷ take n r) high low ∙ sym (take-add 2 n s)
 
--- l, laid end to end, is the front of s, and no whole host is left
-pub record Laid (s : List ℕ) (l : List (List ℕ)) : Type 0 where
-  pub rest : List ℕ
-  pub same : laidHosts l ++ rest ≡ s
-  pub cut : hostWhole rest ≡ false
-
-laid-cut : (s : List ℕ) → hostWhole s ≡ false → Laid s (hosts s)
+laid-cut : (s : List ℕ) → hostWhole s ≡ false → HostsLaid s (hosts s)
 unfolding laidHosts
 laid-cut s w = record { rest = s; same = ap (λ (l : List (List ℕ)). laidHosts l ++ s) (hosts-cut s w); cut = w }
 
-laid-in : (n : ℕ) (s : List ℕ) → length s ≤ n → Bytes s → Laid s (hosts s)
+laid-in : (n : ℕ) (s : List ℕ) → length s ≤ n → Bytes s → HostsLaid s (hosts s)
 unfolding laidHosts
 laid-in zero s h k = laid-cut s (sym (whole-short s (omega arith)))
 laid-in (suc n) s h k =
@@ -103,5 +96,5 @@ laid-in (suc n) s h k =
     })
     (λ w. laid-cut s w)
 
-pub laid-again : (s : List ℕ) → Bytes s → Laid s (hosts s)
+pub laid-again : (s : List ℕ) → Bytes s → HostsLaid s (hosts s)
 laid-again s k = laid-in (length s) s (le-refl (length s)) k

@@ -1,14 +1,17 @@
--- What a turn leaves, and what the program's loop keeps: the place is sound, and the hosts that may still be answered can be
--- counted. Assumes nothing.
+-- What a turn leaves, and what the program's loop keeps: turns lead to where it stands, the place is sound, and the hosts that may
+-- still be answered can be counted. Assumes nothing.
 use Prim.Native.Nat.{ℕ, _+_, _-_, _≤_, _<_}
 use mathlib.Core.Path.{_≡_, refl, sym, ap, subst, _∙_}
-use mathlib.Core.List.{List}
+use mathlib.Core.Bool.{false}
+use mathlib.Core.List.{List, [], _++_}
 use native.Mathlib.Omega.{arith}
-use lib.ListN.{length}
-use Rattle.reader.specs.Held.{outset, Sound, held}
+use lib.ListN.{length, take}
+use Rattle.log.specs.Log.{chunk}
+use Rattle.reader.specs.Held.{outset, Sound, held, came}
 use Rattle.asksuffix.specs.Rule.Hosts.{firstHost}
 use Rattle.asksuffix.specs.Rule.Answers.{mostText}
 use Rattle.asksuffix.specs.Turn.{AskBuffers, past, last, Turn, answered, stopped, read}
+use Rattle.asksuffix.specs.Turns.{AskTurns, none, more, turnCount, AskRan}
 use Rattle.asksuffix.specs.Laws.Line.{length-line}
 use Rattle.reader.specs.Laws.Past.{outset-sound}
 use Rattle.reader.specs.declared.place.Place.{Place}
@@ -25,7 +28,7 @@ pub record After (p : Place) (buf o : List ℕ) (p′ : Place) : Type 0 where
   pub fits : p′ .filled ≤ length o
   pub few : p′ .number ≤ p .number + 1
 
-turn-after : {buf b o : List ℕ} {p : Place} {buf′ o′ : List ℕ} {p′ : Place} → Sound p (length buf) → mostText ≤ length o
+pub turn-after : {buf b o : List ℕ} {p : Place} {buf′ o′ : List ℕ} {p′ : Place} → Sound p (length buf) → mostText ≤ length o
     → Turn buf b o p buf′ o′ p′ → After p buf o p′
 unfolding past last
 turn-after {buf} {b} {o} {p} s m (answered w) =
@@ -44,35 +47,73 @@ turn-after s m (read w) =
     let f = w .filled in
     record { sound = f .sound; fits = omega (arith, f .filled=); few = omega (arith, f .number=) }
 
--- ---- the loop
+-- ---- a run on its way
 
-pub record Running (buf₀ o₀ buf o : List ℕ) (p : Place) (left : ℕ) : Type 0 where
+pub record Under (b buf₀ o₀ : List ℕ) (cs : List (List ℕ)) (x buf o : List ℕ) (p : Place) : Type 0 where
+  pub way : AskTurns b buf₀ o₀ cs x buf o p
+  pub on : p .done ≡ false
   pub sound : Sound p (length buf)
   pub as-long : length buf ≡ length buf₀
   pub as-roomy : length o ≡ length o₀
-  pub counted : p .number + left ≤ turns
 
-pub running-first : (buf o : List ℕ) (left : ℕ) → left ≤ turns → Running buf o buf o outset left
-running-first buf o left h = record { sound = outset-sound (length buf); as-long = refl; as-roomy = refl; counted = omega arith }
+pub under-first : (b buf o : List ℕ) → Under b buf o [] [] buf o outset
+under-first b buf o = record { way = none; on = refl; sound = outset-sound (length buf); as-long = refl; as-roomy = refl }
 
-module _ {buf₀ o₀ buf o : List ℕ} {p : Place} {left : ℕ} (r : Running buf₀ o₀ buf o p left) (h : AskBuffers buf₀ o₀) where
-  pub running-large : AskBuffers buf o
-  running-large =
-      let a = r .as-long in
-      let b = r .as-roomy in
+module _ {b buf₀ o₀ : List ℕ} {cs : List (List ℕ)} {x buf o : List ℕ} {p : Place} (u : Under b buf₀ o₀ cs x buf o p)
+    (h : AskBuffers buf₀ o₀) where
+  pub under-large : AskBuffers buf o
+  under-large =
+      let k = u .as-long in
+      let m = u .as-roomy in
       record { holds = omega (arith, h .holds); roomy = omega (arith, h .roomy) }
 
-  pub running-turn : {b buf′ o′ : List ℕ} {p′ : Place} → Turn buf b o p buf′ o′ p′ → After p buf o p′
-  running-turn w = turn-after (r .sound) (running-large .roomy) w
+  pub under-turn : {b′ buf′ o′ : List ℕ} {p′ : Place} → Turn buf b′ o p buf′ o′ p′ → After p buf o p′
+  under-turn w = turn-after (u .sound) (under-large .roomy) w
 
-  pub running-next : {b buf′ o′ : List ℕ} {p′ : Place} → 0 < left → Turn buf b o p buf′ o′ p′ → length buf′ ≡ length buf
-      → length o′ ≡ length o → Running buf₀ o₀ buf′ o′ p′ (left - 1)
-  running-next l w k m =
-      let a = running-turn w in
-      let in-buf = a .sound in
+  pub under-next : {buf′ o′ : List ℕ} {p′ : Place} → Turn buf b o p buf′ o′ p′ → length buf′ ≡ length buf
+      → length o′ ≡ length o → p′ .done ≡ false
+      → Under b buf₀ o₀ (cs ++ chunk (came buf p buf′ p′)) (x ++ take (p′ .filled) o′) buf′ o′ p′
+  under-next w k m on =
+      let s = under-turn w .sound in
       record {
-        sound = record { ahead = in-buf .ahead; inside = omega (arith, in-buf .inside) };
-        as-long = k ∙ r .as-long;
-        as-roomy = m ∙ r .as-roomy;
-        counted = omega (arith, r .counted, a .few);
+        way = more (u .way) (u .on) w;
+        on = on;
+        sound = record { ahead = s .ahead; inside = omega (arith, s .inside) };
+        as-long = k ∙ u .as-long;
+        as-roomy = m ∙ u .as-roomy;
       }
+
+-- ---- the loop
+
+pub record Running (b buf₀ o₀ buf o : List ℕ) (p : Place) (left : ℕ) : Type 0 where
+  pub chunks : List (List ℕ)
+  pub text : List ℕ
+  pub under : Under b buf₀ o₀ chunks text buf o p
+  pub some : 0 < turnCount (under .way) + left
+  pub counted : p .number + left ≤ turns
+
+pub running-first : (b buf o : List ℕ) (left : ℕ) → 0 < left → left ≤ turns → Running b buf o buf o outset left
+running-first b buf o left l h =
+    record { chunks = _; text = _; under = under-first b buf o; some = omega arith; counted = omega arith }
+
+module _ {b buf₀ o₀ buf o : List ℕ} {p : Place} {left : ℕ} (r : Running b buf₀ o₀ buf o p left) where
+  pub running-next : {buf′ o′ : List ℕ} {p′ : Place} → AskBuffers buf₀ o₀ → 0 < left → Turn buf b o p buf′ o′ p′
+      → length buf′ ≡ length buf → length o′ ≡ length o → p′ .done ≡ false → Running b buf₀ o₀ buf′ o′ p′ (left - 1)
+  unfolding turnCount under-next
+  running-next h l w k m on =
+      record {
+        chunks = _;
+        text = _;
+        under = under-next (r .under) h w k m on;
+        some = omega arith;
+        counted = omega (arith, r .counted, under-turn (r .under) h w .few);
+      }
+
+  -- the loop is left behind a turn, or where none is left
+  pub ran-last : {buf′ o′ : List ℕ} {p′ : Place} → Turn buf b o p buf′ o′ p′ → AskRan b buf₀ o₀ buf′ o′
+  unfolding turnCount
+  ran-last w =
+      record { chunks = _; text = _; place = _; turns = more (r .under .way) (r .under .on) w; some = omega arith }
+
+  pub ran-all : left ≡ 0 → AskRan b buf₀ o₀ buf o
+  ran-all e = record { chunks = _; text = _; place = _; turns = r .under .way; some = omega (arith, r .some) }

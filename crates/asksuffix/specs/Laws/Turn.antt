@@ -14,7 +14,7 @@ use Rattle.reader.specs.Laws.Fill.{length-held}
 use Rattle.reader.specs.Laws.Past.{sound-past, held-past}
 use Rattle.asksuffix.specs.Rule.Hosts.{mostBytes, hostBytes, hostWhole, firstHost}
 use Rattle.asksuffix.specs.Rule.Answers.{mostText, answerLine}
-use Rattle.asksuffix.specs.Turn.{Countable, Answerable, past, last, Gave, Turn, answered, stopped, read}
+use Rattle.asksuffix.specs.Turn.{Countable, Answerable, past, last, Gave, HostAnswered, Turn, answered, stopped, read}
 use Rattle.asksuffix.specs.Laws.Hosts.{whole-has}
 use Rattle.reader.specs.declared.place.Place.{Place}
 
@@ -62,23 +62,25 @@ module _ (buf b o : List ℕ) (p : Place) where
       let l = length-held buf p s in
       record { whole = sym e ∙ h; inside = omega arith; roomy = roomy; counted = counted }
 
-  pub turn-answered : {r : Bool} {o′ : List ℕ} {p′ : Place} → Sound p (length buf) → r ≡ hostWhole lent → r ≡ true
-      → Gave lent b o p o′ p′ → Turn buf b o p buf o′ p′
+  pub host-answered : {o′ : List ℕ} {p′ : Place} → Sound p (length buf) → hostWhole lent ≡ true → Gave lent b o p o′ p′
+      → HostAnswered buf b o p buf o′ p′
   unfolding held past
-  turn-answered {p′ = p′} s e h g =
+  host-answered {p′ = p′} s whole g =
       let k = hostBytes lent in
-      let whole = sym e ∙ h in
       let inside = whole-has lent whole .present in
       let place= = ap (λ (q : Place). q .place) (g .moved) in
       let have= = ap (λ (q : Place). q .have) (g .moved) in
-      answered
-      (record {
+      record {
         whole = whole;
         same = refl;
         gave = g;
         sound = sound-past buf p p′ k s inside place= have=;
         rest = held-past buf p p′ k s inside place= have=;
-      })
+      }
+
+  pub turn-answered : {r : Bool} {o′ : List ℕ} {p′ : Place} → Sound p (length buf) → r ≡ hostWhole lent → r ≡ true
+      → Gave lent b o p o′ p′ → Turn buf b o p buf o′ p′
+  turn-answered s e h g = answered (host-answered s (sym e ∙ h) g)
 
   pub turn-stopped : {r : Bool} {p′ : Place} → r ≡ hostWhole lent → r ≡ false → p .ended ≡ true → p′ ≡ last p
       → Turn buf b o p buf o p′

@@ -1,11 +1,12 @@
 -- The hosts of a stream: "each as a length of 2 bytes (big-endian) and that many bytes .. A length cut short ends it; a host
 -- cut short ends it too." Assumes nothing.
 use Prim.Native.Nat.{ℕ, zero, suc, _+_, _/_, _%_}
-use mathlib.Core.Bool.{Bool, _&&_, cond}
+use mathlib.Core.Bool.{Bool, _&&_, cond, false}
 use mathlib.Core.List.{List, [], _∷_, _++_}
 use lib.ListN.{length, take, drop}
 use lib.Dec.{leb}
 use Rattle.terms.specs.Names.{num}
+use mathlib.Core.Path.{_≡_}
 
 -- no host takes more bytes, its length among them
 abbrev pub mostBytes : ℕ
@@ -40,3 +41,9 @@ laidHost h = length h / 256 ∷ length h % 256 ∷ h
 unfoldable pub laidHosts : List (List ℕ) → List ℕ
 laidHosts [] = []
 laidHosts (h ∷ l) = laidHost h ++ laidHosts l
+
+-- l, laid end to end, is the front of s, and no whole host is left
+pub record HostsLaid (s : List ℕ) (l : List (List ℕ)) : Type 0 where
+  pub rest : List ℕ
+  pub same : laidHosts l ++ rest ≡ s
+  pub cut : hostWhole rest ≡ false

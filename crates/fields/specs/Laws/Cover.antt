@@ -9,23 +9,16 @@ use lib.Dec.{ltb}
 use lib.ListN.{length, getD}
 use lib.Seq.{ext-getD}
 use borrow.Author.Tests.{ltb-true, ltb-false}
-use Rattle.terms.specs.Base.{Range}
+use Rattle.terms.specs.Base.{Range, Bytes}
 use Rattle.terms.specs.Names.{num}
 use Rattle.terms.specs.Laws.Bools.{cases}
 use Rattle.terms.specs.Laws.Num.{num-suc}
 use Rattle.fields.specs.Rule.View.{View, Field, there, tenant, options, selected, seatZero, opens, slots, serial, row}
 use Rattle.fields.specs.Rule.View.{waiting, number, owner, tabs, size, rowZero, letter, seatsAt, rowsAt, last}
-use Rattle.fields.specs.Rule.Layout.{Layout, form, formAt, formWidth, seatAt, tabAt, rowAt, tableBytes, view, viewBy}
+use Rattle.fields.specs.Rule.Layout.{form, formAt, formWidth, seatAt, tabAt, rowAt, tableBytes, view, viewBy}
 use Rattle.fields.specs.Laws.Each.{range, in-range, in-ranges}
 use Rattle.fields.specs.Laws.Few.{four}
-
--- the byte at place n is one of a field that is there
-pub record Covered (l : Layout) (n : ℕ) : Type 0 where
-  pub field : Field
-  pub is : there field ≡ true
-  pub nth : ℕ
-  pub inside : nth < l .width field
-  pub place : l .at field + nth ≡ n
+use Rattle.fields.specs.Rule.Layout.{Covered}
 
 -- ---- the document's layout, four bytes at a time
 
@@ -130,10 +123,6 @@ form-covers n h =
     (λ d. let g = ltb-false n 6144 d in in-trailer n (n - 6144) (omega arith) (omega arith)))
 
 -- ---- and so what a table shows is all of it
-
--- a list of bytes
-abbrev pub Bytes : List ℕ → Type 0
-Bytes t = (i : ℕ) → getD t i 0 < 256
 
 -- the bytes of a number can be told from it
 num-bytes : (t u : List ℕ) (at w : ℕ) → Bytes t → Bytes u → num t at w ≡ num u at w → (i : ℕ) → i < w

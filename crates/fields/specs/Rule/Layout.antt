@@ -1,12 +1,13 @@
 -- Where the fields lie in the bytes, document 01, "Table, exactly 6,152 bytes". The numbers of this file are known to no other
 -- file but its laws and `src/layout.rt`: whatever else is said of a table is said of its view. Assumes nothing.
-use Prim.Native.Nat.{ℕ, _+_, _-_, _*_, _/_, _%_}
-use mathlib.Core.Bool.{Bool, _&&_, cond}
+use Prim.Native.Nat.{ℕ, _+_, _-_, _*_, _/_, _%_, _<_}
+use mathlib.Core.Bool.{Bool, _&&_, cond, true}
 use mathlib.Core.List.{List}
 use lib.Dec.{eqb}
 use Rattle.terms.specs.Names.{num, put}
 use Rattle.fields.specs.Rule.View.{View, Field, there, tenant, options, selected, seatZero, opens, slots, serial, row}
 use Rattle.fields.specs.Rule.View.{waiting, number, owner, tabs, size, rowZero, letter, seatsAt, rowsAt, last}
+use mathlib.Core.Path.{_≡_}
 
 -- ---- any layout
 
@@ -115,3 +116,11 @@ seatOfId i = i / 65536
 
 unfoldable pub serialOfId : ℕ → ℕ
 serialOfId i = i % 65536
+
+-- the byte at place n is one of a field that is there
+pub record Covered (l : Layout) (n : ℕ) : Type 0 where
+  pub field : Field
+  pub is : there field ≡ true
+  pub nth : ℕ
+  pub inside : nth < l .width field
+  pub place : l .at field + nth ≡ n

@@ -8,8 +8,10 @@ use lib.ListN.{length, drop, length-drop}
 use lib.Seq.{drop-drop, length-take-le}
 use Rattle.terms.specs.Names.{num}
 use Rattle.log.specs.Rule.Line.{actionLine, actionLines}
-use Rattle.log.specs.Rule.Written.{frameAt, framesOf, Holds}
+use Rattle.log.specs.Rule.Written.{Holds}
+use Rattle.rules.specs.Sheet.{frameAt, framesOf}
 use Rattle.rules.specs.Inner.{Wrote}
+use Rattle.rules.specs.Laws.Back.{frame-at, frames-none, frames-more}
 use Rattle.rules.specs.Laws.Wrote.{wrote-none, wrote-then, wrote-is}
 use Rattle.log.specs.Laws.Bound.{length-action}
 use Rattle.log.specs.Laws.Part.{from, from-is}
@@ -30,16 +32,15 @@ holds-rest (suc k) s l h = let e : k ≡ suc k - 1 = omega arith in subst (λ n.
 
 lines-first : (k : ℕ) (s : List ℕ) → 0 < k
     → actionLines (framesOf k s) ≡ actionLine (frameAt s) ++ actionLines (framesOf (k - 1) (drop (extent s) s))
-unfolding actionLines framesOf
+unfolding actionLines
 lines-first zero s l = absurd (omega arith)
-lines-first (suc k) s l = let e : suc k - 1 ≡ k = omega arith in rw e
+lines-first (suc k) s l = let e : suc k - 1 ≡ k = omega arith in rw (e, frames-more k s)
 
 length-first : (s : List ℕ) → extent s ≤ length s → length (actionLine (frameAt s)) ≤ 88 + 2 * num s 6 4
-unfolding frameAt
 length-first s h =
     let m : num s 6 4 ≤ length (drop 10 s) = simp length-drop (omega arith) in
     let a = length-action (frameAt s) in
-    let e : length (frameAt s .payload) ≡ num s 6 4 = length-take-le (num s 6 4) (drop 10 s) m in
+    let e : length (frameAt s .payload) ≡ num s 6 4 = rw (frame-at s) (length-take-le (num s 6 4) (drop 10 s) m) in
     omega arith
 
 -- `left` frames are left from place p of s on; the room is now u, and the next line goes to place `to`
@@ -92,5 +93,5 @@ module _ {o : List ℕ} {at : ℕ} {s : List ℕ} {count : ℕ} {u : List ℕ} {
       }
 
   pub going-all : Going o at s count u to p left → left ≡ 0 → Wrote o at (actionLines (framesOf count s)) u to
-  unfolding actionLines framesOf
-  going-all g e = g .rest u to (rw e (wrote-none u to))
+  unfolding actionLines
+  going-all g e = g .rest u to (rw (e, frames-none (drop p s)) (wrote-none u to))

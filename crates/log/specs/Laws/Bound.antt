@@ -1,5 +1,5 @@
 -- How long words and lines are at most. Assumes nothing.
-use Prim.Native.Nat.{ℕ, _+_, _*_, _≤_}
+use Prim.Native.Nat.{ℕ, _+_, _*_, _≤_, _<_}
 use mathlib.Core.Path.{_≡_, refl}
 use mathlib.Core.Bool.{Bool, true, false, cond}
 use mathlib.Core.Logic.{_≢_}
@@ -45,6 +45,10 @@ payload-some x h = let k = length-hex x in rw (ne-eqb (length x) 0 h) (omega ari
 pub length-start : (n : ℕ) → length (startLine n) ≤ 23
 unfolding startLine
 length-start n = let a = length-number n in simp length-append (omega arith)
+
+pub start-some : (n : ℕ) → 0 < length (startLine n)
+unfolding startLine
+start-some n = omega arith
 
 pub length-event : (n answer actions : ℕ) → length (eventLine n answer actions) ≤ 65
 unfolding eventLine

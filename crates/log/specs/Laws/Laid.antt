@@ -1,7 +1,6 @@
 -- The events of a stream laid end to end again, how long each is, and frames that are read as they were laid. Assumes nothing.
 use Prim.Native.Nat.{ℕ, zero, suc, _+_, _<_}
 use mathlib.Core.Path.{_≡_, refl, sym, ap, _∙_}
-use mathlib.Core.Logic.{_≢_}
 use mathlib.Core.List.{List, [], _∷_, _++_, append-assoc, append-nil}
 use native.Mathlib.Omega.{arith}
 use lib.ListN.{length, getD}
@@ -9,14 +8,9 @@ use Rattle.terms.specs.Base.{lastOf, Range}
 use Rattle.log.specs.Rule.Stream.{events, joined}
 use Rattle.log.specs.Laws.First.{whole-has, rest-small}
 use Rattle.log.specs.Laws.Stream.{events-nil}
-use Rattle.log.specs.Laws.Parted.{Alone, Oversize, Short, Parted, done, frame, large, short, events-frame}
-
--- the events l, end to end, are the front of the stream s
-pub record Laid (s : List ℕ) (l : List (List ℕ)) : Type 0 where
-  pub rest : List ℕ
-  pub same : joined l ++ rest ≡ s
-  -- something is left over only behind a head too large, which is the last event
-  pub over : rest ≢ [] → Oversize (lastOf l)
+use Rattle.log.specs.Laws.Parted.{events-frame}
+use Rattle.log.specs.Rule.Parted.{Alone, Oversize, Short, Parted, done, frame, large, short}
+use Rattle.log.specs.Rule.Parted.{Laid}
 
 last-large : (e : List ℕ) (l : List (List ℕ)) → Oversize (lastOf l) → Oversize (lastOf (e ∷ l))
 unfolding lastOf

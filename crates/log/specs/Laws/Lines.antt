@@ -9,9 +9,10 @@ use lib.Seq.{length-take-le}
 use borrow.Author.Tests.{eq-eqb, ne-eqb}
 use Rattle.terms.specs.Names.{num}
 use Rattle.log.specs.Rule.Line.{decimal, hex, number, payload, eventLine, actionLine, startLine, actionLines}
-use Rattle.log.specs.Rule.Written.{frameAt, framesOf, linesOf}
-use Rattle.rules.specs.Sheet.{numberIn, actionsIn, bytesIn}
+use Rattle.log.specs.Rule.Written.{linesOf}
+use Rattle.rules.specs.Sheet.{frameAt, framesOf, numberIn, actionsIn, bytesIn}
 use Rattle.rules.specs.Inner.{Wrote}
+use Rattle.rules.specs.Laws.Back.{frame-at}
 use Rattle.rules.specs.Laws.Wrote.{wrote-is, wrote-then, wrote-three}
 
 -- ---- words
@@ -53,12 +54,12 @@ pub wrote-action : {o : List ℕ} {at : ℕ} {o₁ : List ℕ} {k₁ : ℕ} {o�
     → x ≡ take (num s 6 4) (drop 10 s) → Wrote o at (65 ∷ []) o₁ k₁
     → Wrote o₁ k₁ (number p ++ (number i ++ number t)) o₂ k₂ → Wrote o₂ k₂ (number n) o₃ k₃ → Wrote o₃ k₃ (payload x) o₄ k₄
     → Wrote o₄ k₄ (10 ∷ []) o₅ r → Wrote o at (actionLine (frameAt s)) o₅ r
-unfolding actionLine frameAt
+unfolding actionLine
 wrote-action {p} {i} {t} {n} {x} s l h ep ei et en ex a b c d e =
     let m : num s 6 4 ≤ length (drop 10 s) = simp length-drop (omega arith) in
     let size : length (take (num s 6 4) (drop 10 s)) ≡ num s 6 4 = length-take-le (num s 6 4) (drop 10 s) m in
     let words : 65 ∷ number p ++ (number i ++ (number t ++ (number n ++ (payload x ++ (10 ∷ []))))) ≡ actionLine (frameAt s) =
-    rw (ep, ei, et, en, ex, size) in
+    rw (frame-at s, ep, ei, et, en, ex, size) in
     wrote-is words refl (wrote-is (simp append-assoc) refl (wrote-three h (wrote-three h a b c) d e))
 
 pub wrote-lines : {o : List ℕ} {at : ℕ} {o₁ : List ℕ} {k : ℕ} {o₂ : List ℕ} {r x a w : ℕ} (n answer : ℕ) (room : List ℕ)

@@ -1,5 +1,5 @@
 -- How the document parts a stream into events, and that `events` is the one list that it allows. Assumes nothing.
-use Prim.Native.Nat.{ℕ, zero, suc, _+_, _≤_}
+use Prim.Native.Nat.{ℕ, zero, suc, _≤_}
 use mathlib.Core.Path.{_≡_, sym, ap, ap₂, _∙_, subst₂}
 use mathlib.Core.Bool.{true, false}
 use mathlib.Core.Logic.{_≢_}
@@ -14,34 +14,11 @@ use Rattle.log.specs.Rule.Stream.{whole, oversized, firstBytes, events}
 use Rattle.log.specs.Laws.First.{whole-has, oversized-has, first-whole, first-oversized, first-rest, first-inside}
 use Rattle.log.specs.Laws.Stream.{whole-in, oversized-in, oversized-cut, first-shorter, num-append, whole-append}
 use Rattle.log.specs.Laws.Stream.{oversized-append, first-append, events-nil, events-whole, events-last}
+use Rattle.log.specs.Rule.Parted.{Alone, Oversize, Short, Parted, done, frame, large, short}
 
 -- ---- events by themselves
 
--- a frame, and no byte more
-pub record Alone (e : List ℕ) : Type 0 where
-  pub all : whole e ≡ true
-  pub end : length e ≡ 10 + num e 6 4
-
--- a head whose size exceeds 4,096, and no byte more
-pub record Oversize (e : List ℕ) : Type 0 where
-  pub over : oversized e ≡ true
-  pub end : length e ≡ 10
-
--- a head or a payload that is cut short
-pub record Short (e : List ℕ) : Type 0 where
-  pub some : e ≢ []
-  pub part : whole e ≡ false
-  pub under : oversized e ≡ false
-
 -- ---- end to end
-
-pub data Parted : List ℕ → List (List ℕ) → Type 0 where
-  done : Parted [] []
-  -- a frame, and the events of what comes after it
-  frame : {e s : List ℕ} {l : List (List ℕ)} → Alone e → Parted s l → Parted (e ++ s) (e ∷ l)
-  -- what comes after a head too large is in no event
-  large : {e : List ℕ} (s : List ℕ) → Oversize e → Parted (e ++ s) (e ∷ [])
-  short : {e : List ℕ} → Short e → Parted e (e ∷ [])
 
 -- ---- the first event of a stream
 

@@ -13,9 +13,18 @@ use Rattle.log.specs.Rule.Stream.{events, joined}
 use Rattle.log.specs.Rule.Line.{startLine, lines}
 use Rattle.log.specs.Rule.Log.{step, logFrom, tableAfter, logOf}
 use Rattle.log.specs.Rule.Reading.{taken, Reads, comes, ends, gives, stops}
-use Rattle.log.specs.Laws.Taken.{length-taken, left, ready-first, ready-all}
+use Rattle.log.specs.Laws.Taken.{length-taken, ready-first, ready-all}
+use Rattle.log.specs.Rule.Reading.{left}
 
--- ---- the log of one list of events after another
+-- ---- the log of no events, and of one list after another
+
+pub log-none : (n : ℕ) (t b : List ℕ) → logFrom n t b [] ≡ []
+unfolding logFrom
+log-none n t b = refl
+
+pub table-none : (t b : List ℕ) → tableAfter t b [] ≡ t
+unfolding tableAfter
+table-none t b = refl
 
 pub log-append : (n : ℕ) (t b : List ℕ) (l m : List (List ℕ))
     → logFrom n t b (l ++ m) ≡ logFrom n t b l ++ logFrom (n + length l) (tableAfter t b l) b m

@@ -10,30 +10,14 @@ use lib.ListN.{length, take, drop, length-append, length-drop}
 use lib.Seq.{length-take-le}
 use Rattle.terms.specs.Laws.Bools.{cases}
 use Rattle.log.specs.Rule.Stream.{whole, firstBytes, joined}
-use Rattle.log.specs.Rule.Log.{logFrom, tableAfter}
+use Rattle.log.specs.Rule.Log.{tableAfter}
 use Rattle.log.specs.Rule.Reading.{taken, oneMore, ready, Reads, comes, ends, gives, stops}
 use Rattle.log.specs.Laws.First.{first-inside}
 use Rattle.log.specs.Laws.Stream.{first-shorter, events-nil}
 use Rattle.log.specs.Laws.Ready.{ready-whole, ready-cut, cut-ended}
-use Rattle.log.specs.Laws.Taken.{left, ready-first}
-
-pub data Serves (k : ℕ) (b : List ℕ) : List ℕ → Bool → ℕ → List ℕ → List (List ℕ) → List ℕ → Type 0 where
-  -- nothing is ready, and a chunk is read
-  reads : {held : List ℕ} {n : ℕ} {t : List ℕ} {more : List (List ℕ)} {x : List ℕ} (chunk : List ℕ)
-      → ready k false held ≡ record { count = 0; last = false }
-      → Serves k b (held ++ chunk) false n t more x → Serves k b held false n t (chunk ∷ more) x
-  -- or the end
-  closes : {held : List ℕ} {n : ℕ} {t : List ℕ} {x : List ℕ} → ready k false held ≡ record { count = 0; last = false }
-      → Serves k b held true n t [] x → Serves k b held false n t [] x
-  -- what is ready is given to the kernel
-  serves : {held : List ℕ} {ended : Bool} {n : ℕ} {t : List ℕ} {more : List (List ℕ)} {x : List ℕ} (m : ℕ)
-      → ready k ended held ≡ record { count = suc m; last = false }
-      → Serves k b (left (suc m) held) ended (n + suc m) (tableAfter t b (taken (suc m) held)) more x
-      → Serves k b held ended n t more (logFrom n t b (taken (suc m) held) ++ x)
-  -- and the last of it
-  quits : {held : List ℕ} {ended : Bool} {n : ℕ} {t : List ℕ} {more : List (List ℕ)} (m : ℕ)
-      → ready k ended held ≡ record { count = m; last = true }
-      → Serves k b held ended n t more (logFrom n t b (taken m held))
+use Rattle.log.specs.Laws.Taken.{ready-first}
+use Rattle.log.specs.Rule.Reading.{left}
+use Rattle.log.specs.Rule.Reading.{Serves, ServesSome, reads, closes, serves, quits}
 
 -- it is a reader
 pub serves-reads : {k : ℕ} {b held : List ℕ} {ended : Bool} {n : ℕ} {t : List ℕ} {more : List (List ℕ)} {x : List ℕ}
@@ -44,10 +28,6 @@ serves-reads {k} (serves m e r) = gives k (suc m) e (serves-reads r)
 serves-reads {k} (quits m e) = stops k m e
 
 -- ---- to the end
-
-pub record ServesSome (k : ℕ) (b held : List ℕ) (ended : Bool) (n : ℕ) (t : List ℕ) (more : List (List ℕ)) : Type 0 where
-  pub text : List ℕ
-  pub way : Serves k b held ended n t more text
 
 -- events that are ready make what is held shorter
 ready-some : (k : ℕ) (ended : Bool) (s : List ℕ) (m : ℕ) → ready k ended s ≡ record { count = suc m; last = false }

@@ -13,7 +13,7 @@ use lib.Dec.{eqb, eqb·suc-zero}
 use Rattle.terms.specs.Laws.Bools.{cases}
 use Rattle.fields.specs.Base.{one}
 use Rattle.log.specs.Rule.Stream.{whole, oversized, firstBytes, events, joined}
-use Rattle.log.specs.Rule.Reading.{taken, oneMore, cut, ready}
+use Rattle.log.specs.Rule.Reading.{taken, oneMore, cut, ready, left}
 use Rattle.log.specs.declared.frame.Ready.{Ready}
 use Rattle.log.specs.Laws.First.{first-inside, first-oversized, oversized-has}
 use Rattle.log.specs.Laws.Stream.{first-append, whole-append, oversized-append, oversized-cut}
@@ -37,10 +37,6 @@ events-held s z h =
     events-whole (s ++ z) (whole-append s z h)
     ∙ ap (λ n. take n (s ++ z) ∷ events (drop n (s ++ z))) (first-append s z h)
     ∙ ap₂ (λ x y. x ∷ events y) (take-append-le (firstBytes s) s z f) (drop-append-le (firstBytes s) s z f)
-
--- what m events off the front leave
-abbrev pub left : ℕ → List ℕ → List ℕ
-left m s = drop (length (joined (taken m s))) s
 
 -- they are the first, and those of what they leave follow
 abbrev pub Splits : List ℕ → List ℕ → ℕ → Type 0

@@ -30,6 +30,11 @@ unfoldable pub ready : ℕ → Bool → List ℕ → Ready
 ready zero ended s = record { count = 0; last = false }
 ready (suc k) ended s = cond (whole s) (oneMore (ready k ended (drop (firstBytes s) s))) (cut ended s)
 
+-- what a read brought, as a chunk; where it brought nothing there is none
+unfoldable pub chunk : List ℕ → List (List ℕ)
+chunk [] = []
+chunk (x ∷ l) = (x ∷ l) ∷ []
+
 -- A reader: `held` is unread, `ended` says that the end was seen, n events were given before, t is the table, b the book, the
 -- chunks are still to come, and the text is what it will say.
 pub data Reads (b : List ℕ) : List ℕ → Bool → ℕ → List ℕ → List (List ℕ) → List ℕ → Type 0 where
@@ -47,3 +52,29 @@ pub data Reads (b : List ℕ) : List ℕ → Bool → ℕ → List ℕ → List 
   stops : {held : List ℕ} {ended : Bool} {n : ℕ} {t : List ℕ} {more : List (List ℕ)} (k m : ℕ)
       → ready k ended held ≡ record { count = m; last = true }
       → Reads b held ended n t more (logFrom n t b (taken m held))
+
+-- what m events off the front leave
+abbrev pub left : ℕ → List ℕ → List ℕ
+left m s = drop (length (joined (taken m s))) s
+
+pub data Serves (k : ℕ) (b : List ℕ) : List ℕ → Bool → ℕ → List ℕ → List (List ℕ) → List ℕ → Type 0 where
+  -- nothing is ready, and a chunk is read
+  reads : {held : List ℕ} {n : ℕ} {t : List ℕ} {more : List (List ℕ)} {x : List ℕ} (chunk : List ℕ)
+      → ready k false held ≡ record { count = 0; last = false }
+      → Serves k b (held ++ chunk) false n t more x → Serves k b held false n t (chunk ∷ more) x
+  -- or the end
+  closes : {held : List ℕ} {n : ℕ} {t : List ℕ} {x : List ℕ} → ready k false held ≡ record { count = 0; last = false }
+      → Serves k b held true n t [] x → Serves k b held false n t [] x
+  -- what is ready is given to the kernel
+  serves : {held : List ℕ} {ended : Bool} {n : ℕ} {t : List ℕ} {more : List (List ℕ)} {x : List ℕ} (m : ℕ)
+      → ready k ended held ≡ record { count = suc m; last = false }
+      → Serves k b (left (suc m) held) ended (n + suc m) (tableAfter t b (taken (suc m) held)) more x
+      → Serves k b held ended n t more (logFrom n t b (taken (suc m) held) ++ x)
+  -- and the last of it
+  quits : {held : List ℕ} {ended : Bool} {n : ℕ} {t : List ℕ} {more : List (List ℕ)} (m : ℕ)
+      → ready k ended held ≡ record { count = m; last = true }
+      → Serves k b held ended n t more (logFrom n t b (taken m held))
+
+pub record ServesSome (k : ℕ) (b held : List ℕ) (ended : Bool) (n : ℕ) (t : List ℕ) (more : List (List ℕ)) : Type 0 where
+  pub text : List ℕ
+  pub way : Serves k b held ended n t more text

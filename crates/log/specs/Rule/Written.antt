@@ -1,21 +1,12 @@
--- What the functions of this crate leave, and how frames that lie end to end are read. Assumes nothing.
+-- What the functions of this crate leave, and when frames that lie end to end are all there. Assumes nothing.
 use Prim.Native.Nat.{ℕ, zero, suc, _+_, _≤_}
-use mathlib.Core.List.{List, [], _∷_, _++_}
-use lib.ListN.{length, getD, take, drop}
+use mathlib.Core.List.{List, _++_}
+use lib.ListN.{length, take, drop}
 use Rattle.terms.specs.Names.{num}
-use Rattle.rules.specs.Sheet.{Frame, framed, numberIn, actionsIn, bytesIn}
+use Rattle.rules.specs.Sheet.{framesOf, numberIn, actionsIn, bytesIn}
 use Rattle.log.specs.Rule.Line.{eventLine, actionLines}
 
--- the frame at the front of s
-unfoldable pub frameAt : List ℕ → Frame
-frameAt s = framed (getD s 0 0) (num s 1 4) (getD s 5 0) (take (num s 6 4) (drop 10 s))
-
--- k frames, end to end in s
-unfoldable pub framesOf : ℕ → List ℕ → List Frame
-framesOf zero s = []
-framesOf (suc k) s = frameAt s ∷ framesOf k (drop (10 + num s 6 4) s)
-
--- they are all there
+-- k frames, end to end in s, are all there
 unfoldable pub Holds : ℕ → List ℕ → Type 0
 Holds zero s = Unit {0}
 Holds (suc k) s = (10 + num s 6 4 ≤ length s) × Holds k (drop (10 + num s 6 4) s)

@@ -1,21 +1,22 @@
 -- How each exit of the start comes to what its contract says. Assumes nothing.
 use Prim.Native.Nat.{ℕ, _≤_}
-use mathlib.Core.Path.{_≡_, sym, ap, _∙_}
+use mathlib.Core.Path.{_≡_, sym, ap, ap₂, _∙_}
 use mathlib.Core.Bool.{Bool, cond}
 use mathlib.Core.Logic.{_≢_}
 use mathlib.Core.List.{List, []}
 use native.Mathlib.Nat.{zero-add}
 use native.Mathlib.Omega.{arith}
-use lib.ListN.{length}
+use lib.ListN.{length, take}
 use lib.Dec.{eqb}
-use borrow.Author.Tests.{eq-eqb, ne-eqb}
+use borrow.Author.Tests.{eqb-true, eq-eqb, ne-eqb}
 use Rattle.terms.specs.Laws.Bools.{cases}
 use Rattle.rules.specs.Sheet.{startOf, numberIn, Started, over}
-use Rattle.rules.specs.Laws.Over.{over-nothing}
+use Rattle.rules.specs.Laws.Over.{over-nothing, over-front}
 use Rattle.rules.specs.Promises.Step.{start-read}
-use Rattle.log.specs.Log.{startLine}
+use Rattle.log.specs.Log.{startLine, logOf}
+use Rattle.log.specs.Promises.{refused-log}
 use Rattle.rules.specs.Inner.{Wrote}
-use Rattle.log.specs.Laws.Bound.{length-start}
+use Rattle.log.specs.Laws.Bound.{length-start, start-some}
 use Rattle.logging.specs.Begin.{startText, Begun}
 
 -- n is the number in the start's answer
@@ -49,3 +50,30 @@ begun-fits {t} {b} w h =
     (λ e.
     let l = length-start (startOf t b .number) in
     omega (arith, w .next, ap (λ (x : Bool). length (cond x [] (startLine (startOf t b .number)))) e))
+
+-- a line was written where the start was refused, and nothing where it was done
+pub begun-none : {t b o t′ o′ : List ℕ} {r : ℕ} → Begun t b o t′ o′ r → r ≡ 0 → (startOf t b .number ≡ 0) × (o′ ≡ o)
+unfolding startText
+begun-none {t} {b} {o} w z =
+    let n = startOf t b .number in
+    cases (eqb n 0)
+    (λ e.
+    let empty : startText t b ≡ [] = rw e in
+    (eqb-true n 0 e, w .text ∙ ap (over o 0) empty ∙ over-nothing o 0))
+    (λ e.
+    let line : startText t b ≡ startLine n = rw e in
+    absurd (omega (arith, w .next, ap length line, start-some n)))
+
+pub begun-some : {t b o t′ o′ : List ℕ} {r : ℕ} → Begun t b o t′ o′ r → r ≢ 0 → startOf t b .number ≢ 0
+unfolding startText
+begun-some {t} {b} w h e =
+    let empty : startText t b ≡ [] = rw (eq-eqb (startOf t b .number) 0 e) in
+    h (w .next ∙ ap length empty)
+
+-- where it was refused, it is all of the log
+pub begun-log : {t b o t′ o′ : List ℕ} {r : ℕ} → Begun t b o t′ o′ r → startOf t b .number ≢ 0 → (s : List ℕ)
+    → take r o′ ≡ logOf t b s
+unfolding startText
+begun-log {t} {b} {o} w h s =
+    ap₂ (λ (n : ℕ) (l : List ℕ). take n l) (w .next) (w .text) ∙ over-front o (startText t b)
+    ∙ rw (ne-eqb (startOf t b .number) 0 h) (sym (refused-log t b s h))

@@ -67,7 +67,7 @@ module _ (buf : List ℕ) (p : Place) {t b o t₁ o₁ : List ℕ} {g : Batch}
       let i = many-inside (w .many) in
       omega arith
 
-  rest-is : Sound p (length buf)
+  pub rest-is : Sound p (length buf)
       → held buf (past p g) ≡ drop (length (joined (taken (g .ready .count) (held buf p)))) (held buf p)
   rest-is s =
       held-past buf p (past p g) (g .served .cursor .place) s (many-inside (w .many)) refl refl

@@ -21,7 +21,8 @@ pub record Front (a : Frame) (z e : List ℕ) : Type 0 where
   pub payload= : take (num e 6 4) (drop 10 e) ≡ a .payload
   pub past= : drop (10 + num e 6 4) e ≡ z
 
-four : (e : List ℕ) (at : ℕ)
+-- a number of four bytes, byte by byte
+pub four : (e : List ℕ) (at : ℕ)
     → num e at 4 ≡ ((getD e (at + 0) 0 * 256 + getD e (at + 1) 0) * 256 + getD e (at + 2) 0) * 256 + getD e (at + 3) 0
 four e at = omega (arith, num-suc e at 3, num-suc e at 2, num-suc e at 1, num-suc e at 0, num-zero e at)
 

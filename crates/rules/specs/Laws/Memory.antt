@@ -6,6 +6,7 @@ use native.Mathlib.Nat.{add-zero}
 use native.Mathlib.Omega.{arith}
 use lib.ListN.{length, getD, take, drop, length-drop, take-append-drop}
 use lib.Seq.{take-suc, take-all, drop-drop, getD-drop}
+use Rattle.terms.specs.Base.{Bytes}
 use Rattle.terms.specs.Names.{num}
 use Rattle.terms.specs.Laws.Num.{num-zero, num-suc}
 use Rattle.rules.specs.Rule.Frame.{be, framed, head, bytes}
@@ -14,7 +15,6 @@ use Rattle.rules.specs.declared.event.Event.{Event}
 use Rattle.rules.specs.declared.event.Reading.the-variants.{Whole}
 use Rattle.rules.specs.Laws.Line.{Head, Line, key, mouse, opening, display, socket, url, store, retrieve, result}
 use Rattle.rules.specs.Laws.Line.{document, read-line}
-use Rattle.rules.specs.Laws.Read.{Bytes}
 
 -- ---- numbers
 
@@ -45,13 +45,13 @@ joined : (e : List ℕ) (at w : ℕ) (y z : List ℕ) → y ≡ take w (drop at 
 joined e at w y z p q = rw (p, q, ← drop-drop w at e) (take-append-drop w (drop at e))
 
 -- the rest of the payload
-rest-is : (e : List ℕ) (j : ℕ) → 10 + j ≤ length e → part e (rest e j) ≡ drop (10 + j) e
+pub rest-is : (e : List ℕ) (j : ℕ) → 10 + j ≤ length e → part e (rest e j) ≡ drop (10 + j) e
 unfolding part rest
 rest-is e j h = take-all (length e - (10 + j)) (drop (10 + j) e) (omega (arith, length-drop (10 + j) e))
 
 module _ (e : List ℕ) (g : Bytes e) where
   -- a frame whose payload stands behind the head of e is e
-  frame-is : (p t : ℕ) (x : List ℕ) → Head e p t → x ≡ drop 10 e → bytes (framed p (num e 1 4) t x) ≡ e
+  pub frame-is : (p t : ℕ) (x : List ℕ) → Head e p t → x ≡ drop 10 e → bytes (framed p (num e 1 4) t x) ≡ e
   unfolding bytes head
   frame-is p t x h q =
       let w = h .sized in
@@ -68,11 +68,11 @@ module _ (e : List ℕ) (g : Bytes e) where
   whole-is h = rest-is e 0 (h .sized .long)
 
   -- a number of w bytes, and the rest
-  after-num : (w : ℕ) → 10 + w ≤ length e → be w (num e 10 w) ++ part e (rest e w) ≡ drop 10 e
+  pub after-num : (w : ℕ) → 10 + w ≤ length e → be w (num e 10 w) ++ part e (rest e w) ≡ drop 10 e
   after-num w h = joined e 10 w _ _ (be-num e 10 w g h) (rest-is e w h)
 
   -- the length, the domain of that length, and the rest
-  store-is : 11 + getD e 10 0 ≤ length e
+  pub store-is : 11 + getD e 10 0 ≤ length e
       → be 1 (getD e 10 0) ++ (part e (field 1 (getD e 10 0)) ++ part e (rest e (1 + getD e 10 0))) ≡ drop 10 e
   unfolding part field
   store-is h =
@@ -81,10 +81,13 @@ module _ (e : List ℕ) (g : Bytes e) where
       joined e 10 1 _ _ (be-byte e 10 g (omega arith))
       (joined e 11 n _ _ refl (rest-is e (1 + n) (omega arith) ∙ ap (λ (j : ℕ). drop j e) there))
 
+  -- a key's byte
+  pub key-is : length e ≡ 11 → be 1 (getD e 10 0) ≡ drop 10 e
+  key-is l = be-byte e 10 g (omega arith) ∙ take-all 1 (drop 10 e) (omega (arith, length-drop 10 e))
+
   line-frame : {v : Event} → Line e v → bytes (eventFrame e v) ≡ e
   unfolding eventFrame seatFrame tabFrame delivered field
-  line-frame (key h l) =
-      frame-is 1 1 _ h (be-byte e 10 g (omega arith) ∙ take-all 1 (drop 10 e) (omega (arith, length-drop 10 e)))
+  line-frame (key h l) = frame-is 1 1 _ h (key-is l)
   line-frame (mouse h l) = frame-is 1 2 _ h (whole-is h)
   line-frame (opening h) = frame-is 1 3 _ h (whole-is h)
   line-frame (display h l) = frame-is 2 1 _ h (whole-is h)

@@ -1,9 +1,10 @@
 -- What is read of an event lies in its bytes: a part that a line names is a part of the payload. Assumes nothing.
 use mathlib.Core.Path.{_≡_}
 use mathlib.Core.List.{List}
-use Prim.Native.Nat.{ℕ, _+_, _-_, _≤_, _<_}
+use Prim.Native.Nat.{ℕ, _+_, _≤_}
 use native.Mathlib.Omega.{arith}
 use lib.ListN.{length, getD}
+use Rattle.terms.specs.Base.{Bytes}
 use Rattle.terms.specs.Laws.Num.{num-lt}
 use Rattle.rules.specs.Rule.Event.{rest, field, delivered, readingOf}
 use Rattle.rules.specs.Held.{PartIn, StoreIn, EventIn}
@@ -11,10 +12,6 @@ use Rattle.rules.specs.declared.event.Event.{Event}
 use Rattle.rules.specs.declared.event.Reading.the-variants.{Whole}
 use Rattle.rules.specs.Laws.Line.{Sized, Line, key, mouse, opening, display, socket, url, store, retrieve, result}
 use Rattle.rules.specs.Laws.Line.{document, read-line}
-
--- every element is a byte
-abbrev pub Bytes : List ℕ → Type 0
-Bytes e = (i : ℕ) → getD e i 0 < 256
 
 pub rest-in : (e : List ℕ) (j : ℕ) → Sized e → 10 + j ≤ length e → PartIn e (rest e j)
 unfolding rest

@@ -11,7 +11,7 @@ use Rattle.terms.specs.Base.{within}
 use Rattle.terms.specs.Names.{folded, soundBook}
 use Rattle.terms.specs.Laws.Bools.{cases}
 use Rattle.terms.specs.Laws.Fold.{length-folded}
-use Rattle.fields.specs.Table.{tenant, mostOpens, view, live, row}
+use Rattle.fields.specs.Table.{tenant, view, live, row}
 use Rattle.fields.specs.Laws.Asked.{let-seat}
 use Rattle.fields.specs.Laws.Find.{name-short}
 use Rattle.fields.specs.Promises.{open-sound, pick-sound, close-sound}

@@ -17,28 +17,16 @@ use Rattle.fields.specs.Laws.Can.{number-small, numbers-enough}
 use Rattle.fields.specs.Laws.Tab.{id-is}
 use Rattle.fields.specs.Laws.Table.{table-facts}
 use Rattle.fields.specs.Laws.There.{live-there}
-use Rattle.rules.specs.Rule.Frame.{Frame, framed, frames}
+use Rattle.rules.specs.Rule.Frame.{Frame, framed, frames, AllNarrow}
 use Rattle.rules.specs.Rule.Step.{Outcome, refused, roomNeeded, stepOf}
-use Rattle.rules.specs.Rule.Desk.{newId, processAt}
+use Rattle.rules.specs.Rule.Desk.{newId, processAt, TabAt}
 use Rattle.rules.specs.Laws.Cases.{either}
 use Rattle.rules.specs.Laws.Frame.{length-frames}
 use Rattle.rules.specs.Laws.Outcome.{step-orderly}
-use Rattle.rules.specs.Laws.Happens.{TabAt, Opens, Happens, nothing, joins, renews, selects, leaves, ends}
+use Rattle.rules.specs.Laws.Happens.{Opens, Happens, nothing, joins, renews, selects, leaves, ends}
 use Rattle.rules.specs.Laws.Happens.{types, points, paints, sockets, fetches, stores, gets, denies, results, documents}
 use Rattle.rules.specs.Laws.Happens.{at-live, refused-is}
 use Rattle.rules.specs.Laws.Happened.{step-happens}
-
--- an action's fields fit the bytes that a frame has for them
-pub record Narrow (a : Frame) : Type 0 where
-  pub party : a .party < 256
-  pub id : a .id < 4294967296
-  pub tag : a .tag < 256
-  pub size : length (a .payload) < 4294967296
-
--- those of every action do
-abbrev pub AllNarrow : List Frame → Type 0
-AllNarrow [] = Unit {0}
-AllNarrow (a ∷ l) = Narrow a × AllNarrow l
 
 -- ---- all but the payloads
 
@@ -104,16 +92,16 @@ heads z (selects s k i f h w) = act refl refl (tab-lt z w) (act refl refl (seat-
 heads z (leaves s i f h c w g) = act refl refl (tab-lt z w) (act refl refl (seat-lt (tab-seat z w)) done)
 heads z (ends s i f h c w g) =
     act refl refl (tab-lt z w) (act refl refl (process-lt z w) (act refl refl (seat-lt (tab-seat z w)) done))
-heads z (types s i f w) = act refl refl (tab-lt z w) done
-heads z (points s i y f w) = act refl refl (tab-lt z w) done
-heads z (paints i s k y f w h) = act refl refl (seat-lt (tab-seat z w)) done
-heads z (sockets i s k port name f w h) = act refl refl (tab-lt z w) done
-heads z (fetches i s k u f w h g) = act refl refl (tab-lt z w) done
-heads z (stores i s k domain y f w h) = act refl refl (process-lt z w) done
-heads z (gets i s k domain f w h g) = act refl refl (process-lt z w) done
-heads z (denies tag i s k f w) = act refl refl (tab-lt z w) done
-heads z (results n i s k y f w q g) = act refl refl (tab-lt z w) done
-heads z (documents i s k y f w g) = act refl refl (tab-lt z w) done
+heads z (types s i f _ _ w) = act refl refl (tab-lt z w) done
+heads z (points s i f _ w) = act refl refl (tab-lt z w) done
+heads z (paints i s k f _ w h) = act refl refl (seat-lt (tab-seat z w)) done
+heads z (sockets i s k f _ w h) = act refl refl (tab-lt z w) done
+heads z (fetches i s k f w h g) = act refl refl (tab-lt z w) done
+heads z (stores i s k f _ w h) = act refl refl (process-lt z w) done
+heads z (gets i s k f w h g) = act refl refl (process-lt z w) done
+heads z (denies tag i s k f w _) = act refl refl (tab-lt z w) done
+heads z (results n i s k f _ w q g) = act refl refl (tab-lt z w) done
+heads z (documents i s k f _ w g) = act refl refl (tab-lt z w) done
 
 -- of an unsound table there are no actions
 unsound-heads : (room : ℕ) (t b e : List ℕ) → soundTable t ≡ false → Heads (stepOf room t b e .actions)

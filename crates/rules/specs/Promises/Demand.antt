@@ -7,7 +7,7 @@ use Rattle.rules.specs.Rule.Demand.{Hangs, Suffix, Owner, Counts, Some, 
 use Rattle.rules.specs.Rule.Demand.{Desks, Promised}
 use Rattle.rules.specs.Time.Suffix.{history-suffix}
 use Rattle.rules.specs.Time.Owner as by-owner
-use Rattle.rules.specs.Time.Way.{history-way}
+use Rattle.rules.specs.Time.Passed.{history-way}
 use Rattle.rules.specs.Time.Demand as demand
 
 module _ {book : List ℕ} {cs : List Call} {t : List ℕ} (h : History book cs t) where

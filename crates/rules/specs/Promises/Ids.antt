@@ -8,7 +8,7 @@ use Rattle.rules.specs.Rule.Ids.{DocumentDue, Documents, Due}
 use Rattle.rules.specs.Time.Stand.{history-tabs, history-processes}
 use Rattle.rules.specs.Time.Ids as by-id
 use Rattle.rules.specs.Time.Waiting.{history-cookie, history-document}
-use Rattle.rules.specs.Time.Documents.{history-documents}
+use Rattle.rules.specs.Time.Passed.{history-documents}
 
 module _ {book : List ℕ} {cs : List Call} {t : List ℕ} (h : History book cs t) where
   -- ---- ids

@@ -8,22 +8,23 @@ use mathlib.Core.Logic.{_≢_, _⊎_}
 use mathlib.Core.List.{List, []}
 use native.Mathlib.Omega.{arith}
 use lib.ListN.{length, take, drop}
-use Rattle.terms.specs.Base.{Range}
+use Rattle.terms.specs.Base.{Range, Bytes}
 use Rattle.fields.specs.Table.{soundTable}
-use Rattle.rules.specs.Sheet.{bytes, frames, eventFrame, readingOf, Outcome, stepOf, startOf, packed, Stepped, Started}
-use Rattle.rules.specs.Sheet.{numberIn, actionsIn, bytesIn}
+use Rattle.rules.specs.Sheet.{Frame, bytes, frames, framesOf, eventFrame, readingOf, Outcome, stepOf, startOf, packed, Stepped}
+use Rattle.rules.specs.Sheet.{Started, numberIn, actionsIn, bytesIn, FitsTag, ReadAs, AllNarrow}
 use Rattle.rules.specs.Sheet.{Desk, cookieDomain, storeRule}
 use Rattle.rules.specs.declared.event.Event.{Event}
 use Rattle.rules.specs.declared.event.Reading.the-variants.{Whole}
-use Rattle.rules.specs.Laws.Read.{Bytes}
 use Rattle.rules.specs.Laws.Memory as memory
+use Rattle.rules.specs.Laws.Fits as fit
 use Rattle.rules.specs.Laws.Tab.{store-largest}
 use Rattle.rules.specs.Laws.Outcome.{step-orderly}
 use Rattle.rules.specs.Laws.Answer.{packed-number, packed-actions, packed-bytes, frames-fit, answer-number}
 use Rattle.rules.specs.Laws.Answer.{answer-actions, answer-bytes, room-front, room-past, room-length}
 use Rattle.rules.specs.Laws.Answer.{step-nothing}
 use Rattle.rules.specs.Laws.Start.{start-starts, start-alone, start-reads}
-use Rattle.rules.specs.Laws.Widths.{AllNarrow, step-widths}
+use Rattle.rules.specs.Laws.Widths.{step-widths}
+use Rattle.rules.specs.Laws.Back as back
 
 -- ---- determined
 
@@ -151,6 +152,17 @@ step-answer t b e w =
       same = room-length t b e w;
     }
 
+-- As many frames as counted, laid end to end, are read back as just these;
+pub frames-read : (l : List Frame) → AllNarrow l → framesOf (length l) (frames l) ≡ l
+frames-read l n = back.frames-read l n
+
+-- so what a caller reads from the front of the room, as many frames as the answer says, are exactly the step's actions.
+pub step-read : (t b e : List ℕ) {o t′ o′ : List ℕ} {r : ℕ} → Stepped (stepOf (length o) t b e) o t′ o′ r
+    → framesOf (actionsIn r) (take (bytesIn r) o′) ≡ stepOf (length o) t b e .actions
+step-read t b e {o} w =
+    let x = stepOf (length o) t b e in
+    rw (answer-actions t b e w, room-front t b e w) (frames-read (x .actions) (step-narrow (length o) t b e))
+
 -- ---- a table stays sound
 
 -- A step leaves a sound table sound, whatever it is given.
@@ -166,3 +178,12 @@ start-sound t b h = start-starts t b .sound h
 -- What stands in memory for an event is the event: its party, id, tag, size and payload are its bytes.
 pub read-frame : (e : List ℕ) (v : Event) → Bytes e → readingOf e ≡ Whole v → bytes (eventFrame e v) ≡ e
 read-frame e v g h = memory.read-frame e g v h
+
+-- It fits its tag, as the document's table of events has it;
+pub read-fits : (e : List ℕ) (v : Event) → Bytes e → readingOf e ≡ Whole v → FitsTag (eventFrame e v)
+read-fits e v g h = fit.read-fits e v g h
+
+-- and the bytes of every frame that does, with an id that four bytes hold and at most 4,096 bytes of payload, are read as just
+-- that event.
+pub fits-read : (a : Frame) → FitsTag a → a .id < 4294967296 → length (a .payload) ≤ 4096 → ReadAs a
+fits-read a f i n = fit.fits-read f i n

@@ -1,9 +1,9 @@
 -- Calls that were lent one table, and the words in which promises speak of them: which actions were given, what was typed. Party,
 -- id, tag and payload are those of document 01, "Frames". Assumes nothing.
 use Prim.Native.Nat.{ℕ, _+_}
-use mathlib.Core.Bool.{Bool, false, _&&_, _||_, cond}
+use mathlib.Core.Bool.{Bool, true, false, _&&_, _||_, cond}
 use mathlib.Core.List.{List, [], _∷_}
-use lib.ListN.{getD, drop}
+use lib.ListN.{length, getD, drop}
 use lib.Dec.{eqb}
 use Rattle.fields.specs.Base.{one}
 use Rattle.terms.specs.Names.{num}
@@ -19,6 +19,10 @@ pub data Call : Type 0 where
 unfoldable pub table : Call → List ℕ
 table (step t b e room r l u) = t
 table (start t b r u) = t
+
+unfoldable pub book : Call → List ℕ
+book (step t b e room r l u) = b
+book (start t b r u) = b
 
 unfoldable pub event : Call → List ℕ
 event (step t b e room r l u) = e
@@ -55,6 +59,21 @@ payloadOf e = drop 10 e
 
 unfoldable pub isFrame : ℕ → ℕ → ℕ → Frame → Bool
 isFrame party i tag a = eqb (a .party) party && eqb (a .tag) tag && eqb (a .id) i
+
+-- every one of these actions is so
+pub data Every (P : Frame → Type 0) : List Frame → Type 0 where
+  none : Every P []
+  more : {a : Frame} {l : List Frame} → P a → Every P l → Every P (a ∷ l)
+
+-- those of them that go to a party with a tag, whatever its id
+unfoldable pub given : ℕ → ℕ → List Frame → List Frame
+given party tag [] = []
+given party tag (a ∷ l) = cond (eqb (a .party) party && eqb (a .tag) tag) (a ∷ given party tag l) (given party tag l)
+
+-- no two have party and tag in common
+unfoldable pub kindsApart : List Frame → Bool
+kindsApart [] = true
+kindsApart (a ∷ l) = eqb (length (given (a .party) (a .tag) l)) 0 && kindsApart l
 
 -- one of these actions is such
 unfoldable pub sends : ℕ → ℕ → ℕ → List Frame → Bool

@@ -8,8 +8,9 @@ use mathlib.Core.List.{List, _++_}
 use Rattle.terms.specs.Names.{folded, isSeparate, orders, lettingOf, optionsOf, ownerBy}
 use Rattle.terms.specs.Base.{Range}
 use Rattle.fields.specs.Table.{row, owner, tabs, view, seatOfId, live, used, nameOf, pointing, freeProcess, liveTabs}
-use Rattle.rules.specs.Rule.Call.{Call, event, actions, Past, partyOf, idOf, sends, latest, typed, pending}
-use Rattle.rules.specs.Sheet.{be, stepOf, startOf}
+use Rattle.rules.specs.Rule.Call.{Call, event, actions, Past, partyOf, idOf, Every, given, latest, times, typed}
+use Rattle.rules.specs.Rule.Call.{pending}
+use Rattle.rules.specs.Sheet.{be, Frame, stepOf, startOf}
 use Rattle.rules.specs.Rule.Desk.{idAt}
 
 -- Each live tab hangs on exactly one live cookie process (`Apart` has the "one"),
@@ -56,17 +57,27 @@ BookAlone t = (b : List ℕ) → startOf t b .number ≢ 0 → startOf t b .numb
 
 -- and each cookie request or result ever passed on went between a tab and a process of that same owner and suffix. As the host was
 -- told: process n was started for the owner that the order form gives the desk of tab i, and for the suffix typed for that tab, in
--- lower case.
-abbrev pub Same : List ℕ → List Call → ℕ → ℕ → Type 0
-Same book cs i n = latest 5 n 3 cs ≡ be 1 (ownerBy book (seatOfId i)) ++ folded (typed cs i)
+-- lower case; and both were started once and not stopped.
+pub record Same (book : List ℕ) (cs : List Call) (i n : ℕ) : Type 0 where
+  pub told : latest 5 n 3 cs ≡ be 1 (ownerBy book (seatOfId i)) ++ folded (typed cs i)
+  pub process : (times 5 n 3 cs ≡ 1) × (times 5 n 4 cs ≡ 0)
+  pub tab : (times 5 i 1 cs ≡ 1) × (times 5 i 2 cs ≡ 0)
 
--- A request goes from the tab that sent it; a result comes from the process that sent it, to a tab that asked and has had none
--- since.
+-- A request, set or get, goes from the tab that sent it to such a process;
+pub record Requested (book : List ℕ) (earlier : List Call) (c : Call) (a : Frame) : Type 0 where
+  pub by-tab : partyOf (event c) ≡ 2
+  pub same : Same book earlier (idOf (event c)) (a .id)
+
+-- a result comes from such a process, which sent it, to a tab that asked and has had none since.
+pub record Returned (book : List ℕ) (earlier : List Call) (c : Call) (a : Frame) : Type 0 where
+  pub by-process : partyOf (event c) ≡ 3
+  pub same : Same book earlier (a .id) (idOf (event c))
+  pub asked : pending 5 3 7 earlier (a .id) ≡ true
+
 pub record Way (book : List ℕ) (earlier : List Call) (c : Call) : Type 0 where
-  pub sets : (n : ℕ) → sends 3 n 1 (actions c) ≡ true → (partyOf (event c) ≡ 2) × (Same book earlier (idOf (event c)) n)
-  pub gets : (n : ℕ) → sends 3 n 2 (actions c) ≡ true → (partyOf (event c) ≡ 2) × (Same book earlier (idOf (event c)) n)
-  pub results : (i : ℕ) → sends 2 i 7 (actions c) ≡ true
-      → (partyOf (event c) ≡ 3) × (Same book earlier i (idOf (event c))) × (pending 5 3 7 earlier i ≡ true)
+  pub sets : Every (Requested book earlier c) (given 3 1 (actions c))
+  pub gets : Every (Requested book earlier c) (given 3 2 (actions c))
+  pub results : Every (Returned book earlier c) (given 2 7 (actions c))
 
 abbrev pub Ways : List ℕ → List Call → Type 0
 Ways book cs = (c : Call) (earlier : List Call) → Past c earlier cs → Way book earlier c

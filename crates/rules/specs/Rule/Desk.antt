@@ -1,11 +1,13 @@
 -- What a rule sees and what it answers. A rule looks at one seat's desk; it answers a number, actions, and what becomes of the
 -- seat's tabs. Assumes nothing.
 use Prim.Native.Nat.{ℕ, _+_}
-use mathlib.Core.Bool.{Bool}
+use mathlib.Core.Path.{_≡_}
+use mathlib.Core.Bool.{Bool, true}
 use mathlib.Core.List.{List, []}
 use lib.Dec.{eqb}
 use Rattle.fields.specs.Table.{View, view, selected, opens, serial, row, number, tabs, last, mostOpens, tabId, live, ownerAt}
-use Rattle.fields.specs.Table.{nameOf, processWith, liveTabs, waits, opened, picked, closed, marked, unmarked}
+use Rattle.fields.specs.Table.{nameOf, tabOf, processWith, liveTabs, waits, opened, picked, closed, marked, unmarked}
+use Rattle.fields.specs.declared.place.Place.the-variants.{At}
 use Rattle.fields.specs.declared.mark.Mark.{Mark}
 use Rattle.rules.specs.Rule.Frame.{Frame}
 
@@ -20,6 +22,12 @@ processAt t s k = view t (number (view t (row s k)))
 
 abbrev pub suffixAt : List ℕ → ℕ → ℕ → List ℕ
 suffixAt t s k = nameOf (view t) (view t (row s k))
+
+-- the tab of an id is the live one in slot k of seat s
+pub record TabAt (t : List ℕ) (i s k : ℕ) : Type 0 where
+  pub place : tabOf (view t) i ≡ At s k
+  pub there : live (view t) s k ≡ true
+  pub id : idAt t s k ≡ i
 
 -- "opens + 1 becomes the serial": the id that the next tab of a seat gets
 abbrev pub newId : View → ℕ → ℕ

@@ -11,7 +11,7 @@ use Rattle.fields.specs.Table.{view, live, tabOf, processOf, waits}
 use Rattle.fields.specs.declared.place.Place.{Place}
 use Rattle.fields.specs.declared.place.Place.the-variants.{Nowhere, At}
 use Rattle.fields.specs.declared.mark.Mark.the-variants.{Cookie, Document}
-use Rattle.rules.specs.Rule.Call.{Call, table, actions, left, Past, sends, times, pending}
+use Rattle.rules.specs.Rule.Call.{Call, table, actions, left, Past, Every, given, sends, times, pending}
 use Rattle.rules.specs.Rule.Desk.{idAt}
 
 -- ---- live
@@ -98,8 +98,8 @@ DocumentDue cs t = (s k : ℕ) → live (view t) s k ≡ true → waits (view t)
 -- No document comes that was not asked for. (For cookies demand 3 has it.)
 abbrev pub Documents : List Call → Type 0
 Documents cs =
-    (c : Call) (earlier : List Call) → Past c earlier cs → (i : ℕ) → sends 2 i 6 (actions c) ≡ true
-    → pending 3 4 6 earlier i ≡ true
+    (c : Call) (earlier : List Call) → Past c earlier cs
+    → Every (λ a. pending 3 4 6 earlier (a .id) ≡ true) (given 2 6 (actions c))
 
 pub record Due (cs : List Call) (t : List ℕ) : Type 0 where
   pub cookie : CookieDue cs t

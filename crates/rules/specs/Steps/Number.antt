@@ -1,5 +1,5 @@
 -- Which number an open has, as src/open.rt finds it: the suffix, the book, the slots and the opens. Assumes nothing.
-use Prim.Native.Nat.{ℕ, zero, suc, _-_}
+use Prim.Native.Nat.{ℕ, zero, suc}
 use mathlib.Core.Path.{_≡_, refl, sym, ap, subst, _∙_}
 use mathlib.Core.Bool.{Bool, true, false, not, cond, false≢true}
 use mathlib.Core.Logic.{_≢_, _⊎_, inl, inr}

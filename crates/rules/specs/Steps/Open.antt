@@ -1,5 +1,5 @@
 -- What an open sends and leaves at each exit of src/open.rt. Assumes nothing.
-use Prim.Native.Nat.{ℕ, _+_, _-_, _%_, _≤_, _<_}
+use Prim.Native.Nat.{ℕ, _+_, _%_, _≤_, _<_}
 use mathlib.Core.Path.{_≡_, refl, sym, ap, ap₂, subst, _∙_}
 use mathlib.Core.Bool.{Bool, true, false, not, cond}
 use mathlib.Core.Logic.{_≢_}
@@ -9,7 +9,7 @@ use lib.ListN.{length}
 use lib.Dec.{eqb}
 use Rattle.terms.specs.Names.{folded, soundBook}
 use Rattle.terms.specs.Laws.Fold.{length-folded}
-use Rattle.fields.specs.Table.{view, opens, last, tabId, mostOpens, ownerAt, processWith, opened}
+use Rattle.fields.specs.Table.{view, opens, last, tabId, ownerAt, processWith, opened}
 use Rattle.rules.specs.Rule.Frame.{be, Frame, framed}
 use Rattle.rules.specs.Rule.Action.{startProcess, startTab, go, bar}
 use Rattle.rules.specs.Rule.Desk.{Desk, desk, deskAt, Reply, reply, refuse, openTab, changed, newId}

@@ -1,5 +1,5 @@
 -- How what src/send.rt puts, part by part, comes to one frame. Assumes nothing.
-use Prim.Native.Nat.{ℕ, _+_, _≤_}
+use Prim.Native.Nat.{ℕ, _+_}
 use mathlib.Core.Path.{_≡_, ap, sym, subst, _∙_}
 use mathlib.Core.Bool.{Bool, true, false}
 use mathlib.Core.List.{List, [], _∷_, _++_, append-nil}
@@ -7,7 +7,7 @@ use native.Mathlib.Omega.{arith}
 use lib.ListN.{length, length-append}
 use Rattle.terms.specs.Names.{folded}
 use Rattle.terms.specs.Laws.Fold.{length-folded, folded-nil}
-use Rattle.rules.specs.Rule.Frame.{framed, head, bytes, over}
+use Rattle.rules.specs.Rule.Frame.{framed, head, bytes}
 use Rattle.rules.specs.Held.{cased, Put, Wrote, Sent, Fits}
 use Rattle.rules.specs.Laws.Wrote.{wrote-then}
 use Rattle.rules.specs.Laws.Frame.{length-head}

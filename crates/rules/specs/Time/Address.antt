@@ -3,12 +3,12 @@ use Prim.Native.Nat.{ℕ}
 use mathlib.Core.Path.{_≡_, refl, sym, subst, _∙_}
 use mathlib.Core.Bool.{true, false, _&&_, false≢true}
 use mathlib.Core.Logic.{_≢_, ⊎-elim}
-use mathlib.Core.List.{List, [], _∷_}
+use mathlib.Core.List.{List, _∷_}
 use native.Mathlib.Omega.{arith}
 use lib.Dec.{eqb}
 use borrow.Author.Tests.{eqb-true, eqb-false}
 use Rattle.terms.specs.Laws.Bools.{and-left, and-right, or-case}
-use Rattle.rules.specs.Rule.Call.{Call, table, actions, left, isFrame, sends}
+use Rattle.rules.specs.Rule.Call.{Call, table, actions, left, isFrame, Every, none, more, sends}
 use Rattle.rules.specs.Rule.Ids.{tabLive, processLive, Through, Begins, Addressed}
 use Rattle.rules.specs.Sheet.{Frame, framed}
 use Rattle.rules.specs.Time.Moves.{start-begins, stop-stops}
@@ -26,11 +26,6 @@ pub data To (t u : List ℕ) : Frame → Type 0 where
   network : {i tag : ℕ} {x : List ℕ} → tabLive t i ≡ true → tabLive u i ≡ true → To t u (framed 4 i tag x)
   socket : {i : ℕ} {x : List ℕ} → tabLive t i ≡ true → tabLive u i ≡ true → To t u (framed 5 i 5 x)
   host : {i tag : ℕ} {x : List ℕ} → eqb tag 5 ≡ false → To t u (framed 5 i tag x)
-
--- every one of these actions does
-pub data Every (P : Frame → Type 0) : List Frame → Type 0 where
-  none : Every P []
-  more : {a : Frame} {l : List Frame} → P a → Every P l → Every P (a ∷ l)
 
 -- what holds of every action of a party and a tag holds where one is sent
 sent : {P : Frame → Type 0} {l : List Frame} (Q : ℕ → Type 0) (party i tag : ℕ)

@@ -8,11 +8,11 @@ use lib.Dec.{eqb}
 use Rattle.fields.specs.Table.{row, view, soundTable, marked}
 use Rattle.fields.specs.declared.mark.Mark.the-variants.{Cookie, Document}
 use Rattle.fields.specs.Laws.Asked.{live-used}
-use Rattle.rules.specs.Rule.Call.{step, start, table, actions, left}
+use Rattle.rules.specs.Rule.Call.{step, start, table, actions, left, Every, none, more}
 use Rattle.rules.specs.Rule.Ids.{tabLive, processLive, Addressed}
 use Rattle.rules.specs.Sheet.{framed, Outcome}
-use Rattle.rules.specs.Laws.Happens.{TabAt, Happens, nothing, joins, renews, selects, leaves, ends, types}
-use Rattle.rules.specs.Rule.Desk.{processAt}
+use Rattle.rules.specs.Laws.Happens.{Happens, nothing, joins, renews, selects, leaves, ends, types}
+use Rattle.rules.specs.Rule.Desk.{processAt, TabAt}
 use Rattle.rules.specs.Laws.Happens.{points, paints, sockets, fetches, stores, gets, denies, results, documents}
 use Rattle.rules.specs.Laws.Happens.{refused-is, at-live}
 use Rattle.rules.specs.Time.Induct.{history-sound, Each}
@@ -22,7 +22,7 @@ use Rattle.rules.specs.Time.Live.{tab-live, picked-same, marked-same, un
 use Rattle.rules.specs.Time.Running.{number-live, rows-same}
 use Rattle.rules.specs.Time.TabMoves.{TabAhead, tab-moves}
 use Rattle.rules.specs.Time.ProcessMoves.{ProcessAhead, process-moves}
-use Rattle.rules.specs.Time.Address.{To, screen, begun, tab, process, network, socket, host, Every, none, more}
+use Rattle.rules.specs.Time.Address.{To, screen, begun, tab, process, network, socket, host}
 use Rattle.rules.specs.Time.Address.{addressed-of}
 
 -- the process of a live tab is live
@@ -45,19 +45,19 @@ step-to {t = t} {e = e} z (renews s o h) =
 step-to z (selects s k i f h w) = more (to-tab w (picked-same (at-live z w)) refl) (more screen none)
 step-to z (leaves s i f h w y g) = more (host refl) (more screen none)
 step-to z (ends s i f h w y g) = more (host refl) (more (host refl) (more screen none))
-step-to z (types s i f w) = more (to-tab w (λ j. refl) refl) none
-step-to z (points s i y f w) = more (to-tab w (λ j. refl) refl) none
-step-to z (paints i s k y f w h) = more screen none
-step-to z (sockets i s k port name f w h) = more (socket (tab-live w) (tab-live w)) none
-step-to z (fetches i s k u f w h g) =
+step-to z (types s i f _ _ w) = more (to-tab w (λ j. refl) refl) none
+step-to z (points s i f _ w) = more (to-tab w (λ j. refl) refl) none
+step-to z (paints i s k f _ w h) = more screen none
+step-to z (sockets i s k f _ w h) = more (socket (tab-live w) (tab-live w)) none
+step-to z (fetches i s k f w h g) =
     more (network (tab-live w) (marked-same Document (at-live z w) g i ∙ tab-live w)) none
-step-to z (stores i s k domain y f w h) = more (process (process-live z w) (process-live z w)) none
-step-to {t = t} z (gets i s k domain f w h g) =
+step-to z (stores i s k f _ w h) = more (process (process-live z w) (process-live z w)) none
+step-to {t = t} z (gets i s k f w h g) =
     let same = rows-same t (marked t s k Cookie) (marked-rows t s k Cookie (at-live z w) g .rows) in
     more (process (process-live z w) (same (processAt t s k) ∙ process-live z w)) none
-step-to z (denies tag i s k f w) = more (to-tab w (λ j. refl) refl) none
-step-to z (results n i s k y f w q g) = more (to-tab w (unmarked-same _ (at-live z w) g) refl) none
-step-to z (documents i s k y f w g) = more (to-tab w (unmarked-same _ (at-live z w) g) refl) none
+step-to z (denies tag i s k f w _) = more (to-tab w (λ j. refl) refl) none
+step-to z (results n i s k f _ w q g) = more (to-tab w (unmarked-same _ (at-live z w) g) refl) none
+step-to z (documents i s k f _ w g) = more (to-tab w (unmarked-same _ (at-live z w) g) refl) none
 
 pub addressed : Each (λ book earlier c. Addressed c)
 unfolding table left actions

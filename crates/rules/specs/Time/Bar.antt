@@ -101,16 +101,16 @@ module _ {book : List ℕ} {cs : List Call} {t : List ℕ} (h : History book cs 
   bar-step b e n r (selects s k i _ _ a) = picks-bar s k (at-live (history-sound h) a)
   bar-step b e n r (leaves s i _ _ o _ _) = closes-bar s o
   bar-step b e n r (ends s i _ _ o _ _) = closes-bar s o
-  bar-step b e n r (types s i _ _) = w
-  bar-step b e n r (points s i x _ _) = w
-  bar-step b e n r (paints i s k x _ _ _) = w
-  bar-step b e n r (sockets i s k port host _ _ _) = w
-  bar-step b e n r (fetches i s k u _ a _ o) = marks-bar (marked-marks t s k _ (at-live (history-sound h) a) o)
-  bar-step b e n r (stores i s k domain x _ _ _) = w
-  bar-step b e n r (gets i s k domain _ a _ o) = marks-bar (marked-marks t s k _ (at-live (history-sound h) a) o)
-  bar-step b e n r (denies tag i s k _ _) = w
-  bar-step b e n r (results p i s k x _ a _ o) = marks-bar (unmarked-marks t s k _ (at-live (history-sound h) a))
-  bar-step b e n r (documents i s k x _ a o) = marks-bar (unmarked-marks t s k _ (at-live (history-sound h) a))
+  bar-step b e n r (types s i _ _ _ _) = w
+  bar-step b e n r (points s i _ _ _) = w
+  bar-step b e n r (paints i s k _ _ _ _) = w
+  bar-step b e n r (sockets i s k _ _ _ _) = w
+  bar-step b e n r (fetches i s k _ a _ o) = marks-bar (marked-marks t s k _ (at-live (history-sound h) a) o)
+  bar-step b e n r (stores i s k _ _ _ _) = w
+  bar-step b e n r (gets i s k _ a _ o) = marks-bar (marked-marks t s k _ (at-live (history-sound h) a) o)
+  bar-step b e n r (denies tag i s k _ _ _) = w
+  bar-step b e n r (results p i s k _ _ a _ o) = marks-bar (unmarked-marks t s k _ (at-live (history-sound h) a))
+  bar-step b e n r (documents i s k _ _ a o) = marks-bar (unmarked-marks t s k _ (at-live (history-sound h) a))
 
 barred : {book : List ℕ} {cs : List Call} {t : List ℕ} → History book cs t → Barred cs t
 unfolding actions latest carried

@@ -33,16 +33,16 @@ not-unsound (renews s w z) = λ q. omega arith
 not-unsound (selects s k i fr ky a) = λ q. omega arith
 not-unsound (leaves s i fr ky w a z) = λ q. omega arith
 not-unsound (ends s i fr ky w a z) = λ q. omega arith
-not-unsound (types s i fr a) = λ q. omega arith
-not-unsound (points s i x fr a) = λ q. omega arith
-not-unsound (paints i s k x fr a z) = λ q. omega arith
-not-unsound (sockets i s k port host fr a z) = λ q. omega arith
-not-unsound (fetches i s k u fr a ok z) = λ q. omega arith
-not-unsound (stores i s k domain x fr a ok) = λ q. omega arith
-not-unsound (gets i s k domain fr a ok z) = λ q. omega arith
-not-unsound (denies tag i s k fr a) = λ q. omega arith
-not-unsound (results m i s k x fr a z y) = λ q. omega arith
-not-unsound (documents i s k x fr a y) = λ q. omega arith
+not-unsound (types s i fr _ _ a) = λ q. omega arith
+not-unsound (points s i fr _ a) = λ q. omega arith
+not-unsound (paints i s k fr _ a z) = λ q. omega arith
+not-unsound (sockets i s k fr _ a z) = λ q. omega arith
+not-unsound (fetches i s k fr a ok z) = λ q. omega arith
+not-unsound (stores i s k fr _ a ok) = λ q. omega arith
+not-unsound (gets i s k fr a ok z) = λ q. omega arith
+not-unsound (denies tag i s k fr a _) = λ q. omega arith
+not-unsound (results m i s k fr _ a z y) = λ q. omega arith
+not-unsound (documents i s k fr _ a y) = λ q. omega arith
 
 module _ {book : List ℕ} {cs : List Call} {t : List ℕ} (h : History book cs t) where
   facts : SoundTable t

@@ -1,16 +1,15 @@
 -- Induction over a history: what holds of a fresh table and is kept by every outcome of a step holds of every history, and what
 -- holds of every call that can be made holds of every call that was. Assumes nothing.
 use Prim.Native.Nat.{ℕ}
-use mathlib.Core.Path.{_≡_, sym, subst, _∙_}
+use mathlib.Core.Path.{_≡_, sym, subst}
 use mathlib.Core.Bool.{true}
-use mathlib.Core.Logic.{_≢_}
 use mathlib.Core.List.{List, [], _∷_}
 use lib.ListN.{length}
 use Rattle.terms.specs.Names.{soundBook}
 use Rattle.fields.specs.Table.{soundTable, fresh}
 use Rattle.rules.specs.Rule.Call.{Call, step, start, Past, newest, older}
 use Rattle.rules.specs.Rule.History.{History, started, stepped, unstarted}
-use Rattle.rules.specs.Sheet.{Outcome, stepOf, startOf}
+use Rattle.rules.specs.Sheet.{Outcome, stepOf}
 use Rattle.rules.specs.Laws.Start.{start-starts, start-done, start-kept}
 use Rattle.rules.specs.Laws.Outcome.{step-orderly}
 use Rattle.rules.specs.Laws.Happens.{Happens}

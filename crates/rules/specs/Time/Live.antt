@@ -20,8 +20,7 @@ use Rattle.fields.specs.Laws.Fresh.{fresh-fields}
 use Rattle.fields.specs.Promises.{open-sound, pick-sound, close-sound, mark-sound, unmark-sound}
 use Rattle.rules.specs.Rule.Ids.{isAt, tabLive}
 use Rattle.rules.specs.Sheet.{newId}
-use Rattle.rules.specs.Laws.Happens.{TabAt}
-use Rattle.rules.specs.Rule.Desk.{idAt}
+use Rattle.rules.specs.Rule.Desk.{idAt, TabAt}
 use Rattle.rules.specs.Time.Same.{stays-live, here-or}
 use Rattle.rules.specs.Time.Tabs.{id-apart, id-new, Stays, Still, opened-new, opened-tab, opened-keeps, closed-gone}
 use Rattle.rules.specs.Time.Tabs.{closed-tab, closed-keeps, picked-still}

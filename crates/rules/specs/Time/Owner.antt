@@ -45,16 +45,16 @@ lets-stay g (renews s w z) = lets-open (opened-heads _ s _ (w .takes))
 lets-stay g (selects s k i fr ky a) = lets-kept (picked-rows _ s k (at-live (history-sound g) a) .heads)
 lets-stay g (leaves s i fr ky w a z) = lets-kept (closed-heads _ s w)
 lets-stay g (ends s i fr ky w a z) = lets-kept (closed-heads _ s w)
-lets-stay g (types s i fr a) = lets-same
-lets-stay g (points s i x fr a) = lets-same
-lets-stay g (paints i s k x fr a z) = lets-same
-lets-stay g (sockets i s k port host fr a z) = lets-same
-lets-stay g (fetches i s k u fr a ok z) = lets-kept (marked-rows _ s k _ (at-live (history-sound g) a) z .heads)
-lets-stay g (stores i s k domain x fr a ok) = lets-same
-lets-stay g (gets i s k domain fr a ok z) = lets-kept (marked-rows _ s k _ (at-live (history-sound g) a) z .heads)
-lets-stay g (denies tag i s k fr a) = lets-same
-lets-stay g (results m i s k x fr a z y) = lets-kept (unmarked-rows _ s k _ (at-live (history-sound g) a) .heads)
-lets-stay g (documents i s k x fr a y) = lets-kept (unmarked-rows _ s k _ (at-live (history-sound g) a) .heads)
+lets-stay g (types s i fr _ _ a) = lets-same
+lets-stay g (points s i fr _ a) = lets-same
+lets-stay g (paints i s k fr _ a z) = lets-same
+lets-stay g (sockets i s k fr _ a z) = lets-same
+lets-stay g (fetches i s k fr a ok z) = lets-kept (marked-rows _ s k _ (at-live (history-sound g) a) z .heads)
+lets-stay g (stores i s k fr _ a ok) = lets-same
+lets-stay g (gets i s k fr a ok z) = lets-kept (marked-rows _ s k _ (at-live (history-sound g) a) z .heads)
+lets-stay g (denies tag i s k fr a _) = lets-same
+lets-stay g (results m i s k fr _ a z y) = lets-kept (unmarked-rows _ s k _ (at-live (history-sound g) a) .heads)
+lets-stay g (documents i s k fr _ a y) = lets-kept (unmarked-rows _ s k _ (at-live (history-sound g) a) .heads)
 
 -- ---- lettings
 

@@ -66,17 +66,17 @@ process-moves {t = t} {x = x} z (leaves s i f h w y g) =
 process-moves {t = t} z (ends s i f h w y g) =
     goes (processAt t s (view t (selected s))) (λ i. refl) (λ i. omega arith) (ended-turns t s w g)
     (later t (closed t s) (closed-heads t s w .last=))
-process-moves {t = t} {x = x} z (types s i f w) = stays t (x .actions) (λ i. refl) (λ i. refl)
-process-moves {t = t} {x = x} z (points s i y f w) = stays t (x .actions) (λ i. refl) (λ i. refl)
-process-moves {t = t} {x = x} z (paints i s k y f w h) = stays t (x .actions) (λ i. refl) (λ i. refl)
-process-moves {t = t} {x = x} z (sockets i s k port host f w h) = stays t (x .actions) (λ i. refl) (λ i. refl)
-process-moves {t = t} {x = x} z (fetches i s k u f w h g) =
+process-moves {t = t} {x = x} z (types s i f _ _ w) = stays t (x .actions) (λ i. refl) (λ i. refl)
+process-moves {t = t} {x = x} z (points s i f _ w) = stays t (x .actions) (λ i. refl) (λ i. refl)
+process-moves {t = t} {x = x} z (paints i s k f _ w h) = stays t (x .actions) (λ i. refl) (λ i. refl)
+process-moves {t = t} {x = x} z (sockets i s k f _ w h) = stays t (x .actions) (λ i. refl) (λ i. refl)
+process-moves {t = t} {x = x} z (fetches i s k f w h g) =
     quiet t (x .actions) (λ i. refl) (λ i. refl) (marked t s k Document) (marked-rows t s k Document (at-live z w) g)
-process-moves {t = t} {x = x} z (stores i s k domain y f w h) = stays t (x .actions) (λ i. refl) (λ i. refl)
-process-moves {t = t} {x = x} z (gets i s k domain f w h g) =
+process-moves {t = t} {x = x} z (stores i s k f _ w h) = stays t (x .actions) (λ i. refl) (λ i. refl)
+process-moves {t = t} {x = x} z (gets i s k f w h g) =
     quiet t (x .actions) (λ i. refl) (λ i. refl) (marked t s k Cookie) (marked-rows t s k Cookie (at-live z w) g)
-process-moves {t = t} {x = x} z (denies tag i s k f w) = stays t (x .actions) (λ i. refl) (λ i. refl)
-process-moves {t = t} {x = x} z (results n i s k y f w q g) =
+process-moves {t = t} {x = x} z (denies tag i s k f w _) = stays t (x .actions) (λ i. refl) (λ i. refl)
+process-moves {t = t} {x = x} z (results n i s k f _ w q g) =
     quiet t (x .actions) (λ i. refl) (λ i. refl) _ (unmarked-rows t s k _ (at-live z w))
-process-moves {t = t} {x = x} z (documents i s k y f w g) =
+process-moves {t = t} {x = x} z (documents i s k f _ w g) =
     quiet t (x .actions) (λ i. refl) (λ i. refl) _ (unmarked-rows t s k _ (at-live z w))

@@ -1,16 +1,17 @@
--- What an event leaves alone: one that is not a seat's changes nothing but what one tab waits for, and one of a seat that is no
--- control key changes nothing. Assumes nothing.
-use Prim.Native.Nat.{ℕ, _≤_}
+-- What an event leaves alone: one that is not a seat's changes nothing but what the tab that it names waits for, and one of a seat
+-- that is no control key changes nothing. Assumes nothing.
+use Prim.Native.Nat.{ℕ, _+_, _≤_}
 use mathlib.Core.Path.{_≡_, refl, sym, ap₂, _∙_}
 use mathlib.Core.Bool.{Bool, true, false, false≢true}
 use mathlib.Core.Logic.{_≢_, ⊎-elim}
 use mathlib.Core.List.{List}
 use native.Mathlib.Omega.{arith}
 use lib.ListN.{getD}
-use borrow.Author.Tests.{eq-eqb}
+use borrow.Author.Tests.{eq-eqb, ne-eqb}
+use Rattle.terms.specs.Base.{Range}
 use Rattle.terms.specs.Laws.Bools.{within-in}
 use Rattle.fields.specs.Table.{View, Field, tenant, options, selected, seatZero, opens, slots, serial, row, waiting, number}
-use Rattle.fields.specs.Table.{owner, tabs, size, rowZero, letter, seatsAt, rowsAt, last, view, soundTable, TabLive, waits}
+use Rattle.fields.specs.Table.{owner, tabs, size, rowZero, letter, seatsAt, rowsAt, last, view, soundTable, waits}
 use Rattle.fields.specs.Table.{marked, unmarked}
 use Rattle.fields.specs.declared.mark.Mark.{Mark}
 use Rattle.fields.specs.declared.mark.Mark.the-variants.{Cookie, Document}
@@ -18,11 +19,12 @@ use Rattle.fields.specs.Laws.Each.{at-or}
 use Rattle.fields.specs.Laws.Quiet.{Quiet}
 use Rattle.fields.specs.Laws.There.{live-there}
 use Rattle.fields.specs.Laws.Waited.{marked-quiet, marked-selected, unmarked-quiet, unmarked-selected}
-use Rattle.rules.specs.Rule.Call.{Call, step, table, event, left, partyOf, tagOf}
+use Rattle.rules.specs.Rule.Call.{Call, step, table, event, left, partyOf, idOf, tagOf}
 use Rattle.rules.specs.Rule.History.{History}
-use Rattle.rules.specs.Rule.Quark.{Keys, State, OnlyWaits, control}
+use Rattle.rules.specs.Rule.Quark.{Keys, State, tabNamed, control}
+use Rattle.rules.specs.Rule.Desk.{TabAt}
 use Rattle.rules.specs.Sheet.{Outcome}
-use Rattle.rules.specs.Laws.Happens.{From, Happens, nothing, joins, renews, selects, leaves, ends, types, points, paints}
+use Rattle.rules.specs.Laws.Happens.{From, Code, Brings, Happens, nothing, joins, renews, selects, leaves, ends, types, points, paints}
 use Rattle.rules.specs.Laws.Happens.{sockets, fetches, stores, gets, denies, results, documents, refused-is, at-live}
 use Rattle.rules.specs.Time.Induct.{each-call, history-sound}
 use Rattle.rules.specs.Time.Same.{everywhere, here-or}
@@ -52,56 +54,60 @@ module _ (v u : View) (s k : ℕ) (w : Quiet v u s k) (chosen : (r : ℕ) → u 
   quiet-rest rowsAt n = w .rows .offsets .rowsAt=
   quiet-rest last n = w .rows .last=
 
-unchanged : (t : List ℕ) → OnlyWaits t t
-unchanged t = record { seat = 0; slot = 0; rest = λ f n. refl }
+-- every field but the mark of the tab of an id is as it was
+abbrev OnlyMark : List ℕ → List ℕ → ℕ → Type 0
+OnlyMark t u i = (f : Field) → ((s k : ℕ) → TabAt t i s k → f ≢ waiting s k) → view u f ≡ view t f
 
-module _ (t : List ℕ) (s k : ℕ) (m : Mark) (w : TabLive t s k) where
-  marked-only : waits (view t) s k m ≡ false → OnlyWaits t (marked t s k m)
-  marked-only e =
-      record {
-        seat = s;
-        slot = k;
-        rest = quiet-rest (view t) (view (marked t s k m)) s k (marked-quiet t s k w m e) (marked-selected t s k w m e);
-      }
+module _ {t : List ℕ} {i s k : ℕ} (m : Mark) (sound : soundTable t ≡ true) (a : TabAt t i s k) where
+  marked-only : waits (view t) s k m ≡ false → OnlyMark t (marked t s k m) i
+  marked-only e f n =
+      let w = at-live sound a in
+      quiet-rest (view t) (view (marked t s k m)) s k (marked-quiet t s k w m e) (marked-selected t s k w m e) f (n s k a)
 
-  unmarked-only : OnlyWaits t (unmarked t s k m)
-  unmarked-only =
-      record {
-        seat = s;
-        slot = k;
-        rest = quiet-rest (view t) (view (unmarked t s k m)) s k (unmarked-quiet t s k w m) (unmarked-selected t s k w m);
-      }
+  unmarked-only : OnlyMark t (unmarked t s k m) i
+  unmarked-only f n =
+      let w = at-live sound a in
+      quiet-rest (view t) (view (unmarked t s k m)) s k (unmarked-quiet t s k w m) (unmarked-selected t s k w m) f (n s k a)
 
 -- ---- an event that is not a seat's
 
 abbrev Waits : Call → Type 0
-Waits c = partyOf (event c) ≢ 1 → OnlyWaits (table c) (left c)
+Waits c = partyOf (event c) ≢ 1 → OnlyMark (table c) (left c) (tabNamed (event c))
+
+-- the tab that an event names: its sender, and the one that a result or document is for
+from-tab : {e : List ℕ} {tag i : ℕ} → From e 2 tag i → tabNamed e ≡ i
+unfolding tabNamed partyOf idOf
+from-tab {e} f = rw (eq-eqb (getD e 0 0) 2 (f .head .party=)) (f .id)
+
+to-tab : {e : List ℕ} {party n i : ℕ} → From e party 1 n → party ≢ 2 → Brings e i → tabNamed e ≡ i
+unfolding tabNamed partyOf idOf
+to-tab {e} f h w = rw (ne-eqb (getD e 0 0) 2 (λ q. h (sym (f .head .party=) ∙ q))) (w .tab)
 
 waits-step : {t : List ℕ} {x : Outcome} (b e : List ℕ) (n r : ℕ) → soundTable t ≡ true → Happens t b e x
     → Waits (step t b e n r (x .actions) (x .table))
 unfolding event table left partyOf
-waits-step {t} b e n r h (nothing m _) = rw (refused-is m t) (λ p. unchanged t)
+waits-step {t} b e n r h (nothing m _) = rw (refused-is m t) (λ p g w. refl)
 waits-step b e n r h (joins s w _) = λ p. absurd (p (w .from .head .party=))
 waits-step b e n r h (renews s w _) = λ p. absurd (p (w .from .head .party=))
 waits-step b e n r h (selects s k i f _ _) = λ p. absurd (p (f .head .party=))
 waits-step b e n r h (leaves s i f _ _ _ _) = λ p. absurd (p (f .head .party=))
 waits-step b e n r h (ends s i f _ _ _ _) = λ p. absurd (p (f .head .party=))
-waits-step {t} b e n r h (types s i _ _) = λ p. unchanged t
-waits-step {t} b e n r h (points s i x _ _) = λ p. unchanged t
-waits-step {t} b e n r h (paints i s k x _ _ _) = λ p. unchanged t
-waits-step {t} b e n r h (sockets i s k port host _ _ _) = λ p. unchanged t
-waits-step {t} b e n r h (fetches i s k u _ a _ w) = λ p. marked-only t s k Document (at-live h a) w
-waits-step {t} b e n r h (stores i s k domain x _ _ _) = λ p. unchanged t
-waits-step {t} b e n r h (gets i s k domain _ a _ w) = λ p. marked-only t s k Cookie (at-live h a) w
-waits-step {t} b e n r h (denies tag i s k _ _) = λ p. unchanged t
-waits-step {t} b e n r h (results q i s k x _ a _ _) = λ p. unmarked-only t s k _ (at-live h a)
-waits-step {t} b e n r h (documents i s k x _ a _) = λ p. unmarked-only t s k _ (at-live h a)
+waits-step b e n r h (types s i _ _ _ _) = λ p g w. refl
+waits-step b e n r h (points s i _ _ _) = λ p g w. refl
+waits-step b e n r h (paints i s k _ _ _ _) = λ p g w. refl
+waits-step b e n r h (sockets i s k _ _ _ _) = λ p g w. refl
+waits-step b e n r h (fetches i s k f a _ w) = λ p. rw (from-tab f) (marked-only Document h a w)
+waits-step b e n r h (stores i s k _ _ _ _) = λ p g w. refl
+waits-step b e n r h (gets i s k f a _ w) = λ p. rw (from-tab f) (marked-only Cookie h a w)
+waits-step b e n r h (denies tag i s k _ _ _) = λ p g w. refl
+waits-step b e n r h (results q i s k f to a _ _) = λ p. rw (to-tab f (λ z. omega arith) to) (unmarked-only _ h a)
+waits-step b e n r h (documents i s k f to a _) = λ p. rw (to-tab f (λ z. omega arith) to) (unmarked-only _ h a)
 
 pub history-state : {book : List ℕ} {cs : List Call} {t : List ℕ} → History book cs t → State cs
 unfolding table left
 history-state =
     each-call (λ book cs c. Waits c)
-    (record { start! = λ h b r p. unchanged _; step! = λ b e n r h x. waits-step b e n r (history-sound h) x })
+    (record { start! = λ h b r p f w. refl; step! = λ b e n r h x. waits-step b e n r (history-sound h) x })
 
 -- ---- an event of a seat that is no control key
 
@@ -109,14 +115,22 @@ abbrev Keeps : Call → Type 0
 Keeps c = partyOf (event c) ≡ 1 → control (event c) ≡ false → left c ≡ table c
 
 module _ {e : List ℕ} {s : ℕ} where
-  -- an open is a control key, and so is a key from 14 to 25
+  -- an open is a control key, and so are the keys that select and close
   open-control : From e 1 3 s → control e ≡ true
   unfolding control tagOf
   open-control f = rw (eq-eqb (getD e 5 0) 3 (f .head .tag=))
 
-  key-control : From e 1 1 s → 14 ≤ getD e 10 0 → getD e 10 0 ≤ 25 → control e ≡ true
+  select-control : {k : ℕ} → From e 1 1 s → Code e (k + 13) → Range 1 10 k → control e ≡ true
   unfolding control tagOf
-  key-control f h k = rw (f .head .tag=, within-in 14 25 (getD e 10 0) h k)
+  select-control f c l =
+      let q = c .is in
+      let low = l .low in
+      let high = l .high in
+      rw (f .head .tag=, within-in 14 23 (getD e 10 0) (omega arith) (omega arith))
+
+  close-control : From e 1 1 s → Code e 25 → control e ≡ true
+  unfolding control tagOf
+  close-control f c = rw (f .head .tag=, c .is)
 
 no-control : {A : Type 0} {a : Bool} → a ≡ false → a ≡ true → A
 no-control c d = absurd (false≢true (sym c ∙ d))
@@ -132,22 +146,19 @@ keeps-step {t} b e n r (nothing m _) = rw (refused-is m t) (λ p c. refl)
 keeps-step b e n r (joins s w _) = λ p c. no-control c (open-control (w .from))
 keeps-step b e n r (renews s w _) = λ p c. no-control c (open-control (w .from))
 keeps-step {t} b e n r (selects s k i f q a) = λ p c.
-    let l = live-there t s k (a .there) .1 in
-    let low = l .low in
-    let high = l .high in
-    no-control c (key-control f (omega arith) (omega arith))
-keeps-step b e n r (leaves s i f q _ _ _) = λ p c. no-control c (key-control f (omega arith) (omega arith))
-keeps-step b e n r (ends s i f q _ _ _) = λ p c. no-control c (key-control f (omega arith) (omega arith))
-keeps-step b e n r (types s i _ _) = λ p c. refl
-keeps-step b e n r (points s i x _ _) = λ p c. refl
-keeps-step b e n r (paints i s k x _ _ _) = λ p c. refl
-keeps-step b e n r (sockets i s k port host _ _ _) = λ p c. refl
-keeps-step b e n r (fetches i s k u f _ _ _) = λ p c. no-seat f (omega arith) p
-keeps-step b e n r (stores i s k domain x _ _ _) = λ p c. refl
-keeps-step b e n r (gets i s k domain f _ _ _) = λ p c. no-seat f (omega arith) p
-keeps-step b e n r (denies tag i s k _ _) = λ p c. refl
-keeps-step b e n r (results q i s k x f _ _ _) = λ p c. no-seat f (omega arith) p
-keeps-step b e n r (documents i s k x f _ _) = λ p c. no-seat f (omega arith) p
+    no-control c (select-control f q (live-there t s k (a .there) .1))
+keeps-step b e n r (leaves s i f q _ _ _) = λ p c. no-control c (close-control f q)
+keeps-step b e n r (ends s i f q _ _ _) = λ p c. no-control c (close-control f q)
+keeps-step b e n r (types s i _ _ _ _) = λ p c. refl
+keeps-step b e n r (points s i _ _ _) = λ p c. refl
+keeps-step b e n r (paints i s k _ _ _ _) = λ p c. refl
+keeps-step b e n r (sockets i s k _ _ _ _) = λ p c. refl
+keeps-step b e n r (fetches i s k f _ _ _) = λ p c. no-seat f (omega arith) p
+keeps-step b e n r (stores i s k _ _ _ _) = λ p c. refl
+keeps-step b e n r (gets i s k f _ _ _) = λ p c. no-seat f (omega arith) p
+keeps-step b e n r (denies tag i s k _ _ _) = λ p c. refl
+keeps-step b e n r (results q i s k f _ _ _ _) = λ p c. no-seat f (omega arith) p
+keeps-step b e n r (documents i s k f _ _ _) = λ p c. no-seat f (omega arith) p
 
 pub history-keys : {book : List ℕ} {cs : List Call} {t : List ℕ} → History book cs t → Keys cs
 unfolding table left

@@ -17,8 +17,8 @@ use Rattle.rules.specs.Rule.Call.{Call, step, start, event, actions, pay
 use Rattle.rules.specs.Rule.History.{History}
 use Rattle.rules.specs.Rule.Demand.{Suffix}
 use Rattle.rules.specs.Sheet.{Frame, Outcome, newId}
-use Rattle.rules.specs.Laws.Happens.{TabAt, Happens, nothing, joins, renews, selects, leaves, ends, types}
-use Rattle.rules.specs.Rule.Desk.{idAt, suffixAt}
+use Rattle.rules.specs.Laws.Happens.{Happens, nothing, joins, renews, selects, leaves, ends, types}
+use Rattle.rules.specs.Rule.Desk.{idAt, suffixAt, TabAt}
 use Rattle.rules.specs.Laws.Happens.{points, paints, sockets, fetches, stores, gets, denies, results, documents}
 use Rattle.rules.specs.Laws.Happens.{refused-is, at-live}
 use Rattle.rules.specs.Time.Induct.{Kept, induct, history-sound}
@@ -83,16 +83,16 @@ module _ (book : List ℕ) (cs : List Call) (t : List ℕ) (h : Typed book cs t)
   happens b e n r g (selects s k i fr ky a) = still _ _ (λ i. refl) (picked-still t s k (at-live (history-sound g) a))
   happens b e n r g (leaves s i fr ky w a z) = quiet _ _ (λ i. refl) (closed-tab t s w)
   happens b e n r g (ends s i fr ky w a z) = quiet _ _ (λ i. refl) (closed-tab t s w)
-  happens b e n r g (types s i fr a) = unchanged _ (λ i. refl)
-  happens b e n r g (points s i x fr a) = unchanged _ (λ i. refl)
-  happens b e n r g (paints i s k x fr a z) = unchanged _ (λ i. refl)
-  happens b e n r g (sockets i s k port host fr a z) = unchanged _ (λ i. refl)
-  happens b e n r g (fetches i s k u fr a ok z) = still _ _ (λ i. refl) (marked-marks t s k _ (at-live (history-sound g) a) z .still)
-  happens b e n r g (stores i s k domain x fr a ok) = unchanged _ (λ i. refl)
-  happens b e n r g (gets i s k domain fr a ok z) = still _ _ (λ i. refl) (marked-marks t s k _ (at-live (history-sound g) a) z .still)
-  happens b e n r g (denies tag i s k fr a) = unchanged _ (λ i. refl)
-  happens b e n r g (results m i s k x fr a z y) = still _ _ (λ i. refl) (unmarked-marks t s k _ (at-live (history-sound g) a) .still)
-  happens b e n r g (documents i s k x fr a y) = still _ _ (λ i. refl) (unmarked-marks t s k _ (at-live (history-sound g) a) .still)
+  happens b e n r g (types s i fr _ _ a) = unchanged _ (λ i. refl)
+  happens b e n r g (points s i fr _ a) = unchanged _ (λ i. refl)
+  happens b e n r g (paints i s k fr _ a z) = unchanged _ (λ i. refl)
+  happens b e n r g (sockets i s k fr _ a z) = unchanged _ (λ i. refl)
+  happens b e n r g (fetches i s k fr a ok z) = still _ _ (λ i. refl) (marked-marks t s k _ (at-live (history-sound g) a) z .still)
+  happens b e n r g (stores i s k fr _ a ok) = unchanged _ (λ i. refl)
+  happens b e n r g (gets i s k fr a ok z) = still _ _ (λ i. refl) (marked-marks t s k _ (at-live (history-sound g) a) z .still)
+  happens b e n r g (denies tag i s k fr a _) = unchanged _ (λ i. refl)
+  happens b e n r g (results m i s k fr _ a z y) = still _ _ (λ i. refl) (unmarked-marks t s k _ (at-live (history-sound g) a) .still)
+  happens b e n r g (documents i s k fr _ a y) = still _ _ (λ i. refl) (unmarked-marks t s k _ (at-live (history-sound g) a) .still)
 
 kept : Kept Typed
 unfolding sends actions

@@ -86,15 +86,15 @@ tab-moves {t = t} z (leaves s i f h w y g) =
     goes i (λ i. refl) (λ i. omega arith) (closed-flips t s i w y) (later t (closed t s) (close-grows t s w))
 tab-moves {t = t} z (ends s i f h w y g) =
     goes i (λ i. refl) (λ i. omega arith) (closed-flips t s i w y) (later t (closed t s) (close-grows t s w))
-tab-moves {t = t} {x = x} z (types s i f w) = stays t (x .actions) (λ i. refl) (λ i. refl)
-tab-moves {t = t} {x = x} z (points s i y f w) = stays t (x .actions) (λ i. refl) (λ i. refl)
-tab-moves {t = t} {x = x} z (paints i s k y f w h) = stays t (x .actions) (λ i. refl) (λ i. refl)
-tab-moves {t = t} {x = x} z (sockets i s k port host f w h) = stays t (x .actions) (λ i. refl) (λ i. refl)
-tab-moves {t = t} {x = x} z (fetches i s k u f w h g) = marks t (x .actions) (λ i. refl) (λ i. refl) s k Document (at-live z w) g
-tab-moves {t = t} {x = x} z (stores i s k domain y f w h) = stays t (x .actions) (λ i. refl) (λ i. refl)
-tab-moves {t = t} {x = x} z (gets i s k domain f w h g) = marks t (x .actions) (λ i. refl) (λ i. refl) s k Cookie (at-live z w) g
-tab-moves {t = t} {x = x} z (denies tag i s k f w) = stays t (x .actions) (λ i. refl) (λ i. refl)
-tab-moves {t = t} {x = x} z (results n i s k y f w q g) =
+tab-moves {t = t} {x = x} z (types s i f _ _ w) = stays t (x .actions) (λ i. refl) (λ i. refl)
+tab-moves {t = t} {x = x} z (points s i f _ w) = stays t (x .actions) (λ i. refl) (λ i. refl)
+tab-moves {t = t} {x = x} z (paints i s k f _ w h) = stays t (x .actions) (λ i. refl) (λ i. refl)
+tab-moves {t = t} {x = x} z (sockets i s k f _ w h) = stays t (x .actions) (λ i. refl) (λ i. refl)
+tab-moves {t = t} {x = x} z (fetches i s k f w h g) = marks t (x .actions) (λ i. refl) (λ i. refl) s k Document (at-live z w) g
+tab-moves {t = t} {x = x} z (stores i s k f _ w h) = stays t (x .actions) (λ i. refl) (λ i. refl)
+tab-moves {t = t} {x = x} z (gets i s k f w h g) = marks t (x .actions) (λ i. refl) (λ i. refl) s k Cookie (at-live z w) g
+tab-moves {t = t} {x = x} z (denies tag i s k f w _) = stays t (x .actions) (λ i. refl) (λ i. refl)
+tab-moves {t = t} {x = x} z (results n i s k f _ w q g) =
     unmarks t (x .actions) (λ i. refl) (λ i. refl) s k _ (at-live z w) g
-tab-moves {t = t} {x = x} z (documents i s k y f w g) =
+tab-moves {t = t} {x = x} z (documents i s k f _ w g) =
     unmarks t (x .actions) (λ i. refl) (λ i. refl) s k _ (at-live z w) g

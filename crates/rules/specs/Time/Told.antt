@@ -15,8 +15,8 @@ use Rattle.fields.specs.Laws.Tab.{id-seat, id-serial}
 use Rattle.fields.specs.Laws.Table.{table-facts}
 use Rattle.rules.specs.Rule.Call.{Call}
 use Rattle.rules.specs.Sheet.{newId}
-use Rattle.rules.specs.Laws.Happens.{TabAt, at-live}
-use Rattle.rules.specs.Rule.Desk.{idAt}
+use Rattle.rules.specs.Laws.Happens.{at-live}
+use Rattle.rules.specs.Rule.Desk.{idAt, TabAt}
 use Rattle.rules.specs.Time.Tabs.{Stays, id-apart, opened-new, opened-tab, opened-waits, closed-gone, closed-tab}
 use Rattle.rules.specs.Time.Tabs.{closed-waits, picked-still, picked-waits}
 use Rattle.rules.specs.Time.Marks.{MarkedTo, marked-to, unmarked-to}

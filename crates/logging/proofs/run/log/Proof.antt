@@ -1,5 +1,6 @@
--- `run::log`: a line that was written lies in the room.
+-- `run::log`: a line was written, and lies in the room; or none was, and the loop went on from the start's table.
 use Rattle.logging.specs.Laws.Begin.{begun-fits}
+use Rattle.logging.specs.Laws.Run.{logged-ran, logged-refused}
 use native.Mathlib.Omega.{arith}
 use borrow.Author.Needs.{needs}
 use Rattle.logging.proofs.run.log.Statement.{statement}
@@ -21,7 +22,11 @@ same-length-3 : tie.Need-same-length-3
 same-length-3 c = search needs
 
 returns : tie.Need-returns
-returns c = search needs
+returns c =
+    let looped = c .before .before .before .before .before .before in
+    let none = looped .before .before .before .before in
+    let begun = none .before .before .before .before .before in
+    logged-ran (begun .begin .ensures) (none .if1 .taken) (looped .run .ensures)
 
 flush-requires : tie.Need-flush-requires
 flush-requires c κs =
@@ -43,7 +48,10 @@ same-length-5 : tie.Need-same-length-5
 same-length-5 c = search needs
 
 returns-2 : tie.Need-returns-2
-returns-2 c = search needs
+returns-2 c =
+    let some = c .before .before .before .before in
+    let begun = some .before .before .before .before .before in
+    logged-refused (begun .begin .ensures) (some .if1 .left)
 
 pub log-spec : {M : Type 1} → statement M
 log-spec =
