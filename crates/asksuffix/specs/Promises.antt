@@ -4,8 +4,8 @@ use Rattle.std.proofs.Common.{sym, ap, ◌∙◌, true≢false, append-nil, arit
 use Rattle.terms.specs.Base.{Bytes}
 use Rattle.terms.specs.Names.{sound_book}
 use Rattle.terms.specs.Laws.Bools.{fails}
-use Rattle.log.specs.Log.{joined}
-use Rattle.log.specs.Laws.Books.{no_book}
+use Rattle.logs.specs.Log.{joined}
+use Rattle.logs.specs.Laws.Books.{no_book}
 use Rattle.reader.specs.Held.{held}
 use Rattle.asksuffix.specs.Rule.Hosts.{host_whole, hosts, laid_hosts}
 use Rattle.asksuffix.specs.Rule.Answers.{most_text, answer_line, answer_lines, answers}

@@ -1,4 +1,5 @@
 // The program for support: book.bin and hosts in, and for each host a line with its suffix under the book.
+#![tactic(auto)]
 mod answer;
 mod cut;
 mod help;

@@ -1,4 +1,5 @@
 // The desk log program: book.bin and a stream of events in, a line for each event and each action out.
+#![tactic(auto)]
 mod help;
 
 ghost use Rattle.std.specs.Prelude.{◌≡◌, length};

@@ -1,5 +1,5 @@
 // What a tab may wait for.
-#[derive(Drop)]
+#[derive(Clone, Copy)]
 pub enum Mark {
     Cookie,
     Document,

@@ -1,5 +1,5 @@
 // Where a tab is live.
-#[derive(Drop)]
+#[derive(Clone, Copy)]
 pub enum Place {
     Nowhere,
     At { seat: usize, slot: usize },

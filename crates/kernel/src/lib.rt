@@ -1,5 +1,6 @@
 // The kernel between hosted desks, their tabs and their cookie processes: start and step, the only two functions that leave it.
 // The memory lent to one call does not overlap; nothing is kept between calls.
+#![tactic(auto)]
 ghost use Rattle.std.specs.Prelude.{length};
 ghost use Rattle.rules.specs.Sheet.{step_of, start_of, Stepped, Started};
 ghost use Rattle.rules.specs.Inner.{Decided};

@@ -12,16 +12,16 @@ use std::num::wrapping_add_usize;
 fn ask(table: &mut Table, book: &[u8], room: &mut Room, l: &[u8], c: usize, lent: Lent) -> usize {
     if c == ROUNDS {
         let n = number_at(l, 1);
-        log::say_rounds(n, rounds(table, book, room, l, n, lent));
+        logs::say_rounds(n, rounds(table, book, room, l, n, lent));
         return wrapping_add_usize(lent.events, wrapping_add_usize(n, n));
     }
     let o = call(table, book, room, l, c, lent);
     if c == START {
-        log::say_start(o);
+        logs::say_start(o);
         return 0;
     }
     let n = wrapping_add_usize(lent.events, 1);
-    log::say_step(n, o, room);
+    logs::say_step(n, o, room);
     n
 }
 

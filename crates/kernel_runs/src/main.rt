@@ -1,4 +1,5 @@
 // The kernel's two calls, run: a script of commands on standard input, and what came of each.
+#![tactic(auto)]
 mod command;
 mod log;
 

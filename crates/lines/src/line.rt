@@ -1,8 +1,8 @@
 // The lines of the desk log, over a room from a place on; each function gives the place after its text.
 ghost use Rattle.std.specs.Prelude.{◌++◌, ◌+◌, ◌*◌, ◌≤◌, length};
 ghost use Rattle.terms.specs.Names.{num};
-ghost use Rattle.log.specs.Log.{number, payload, event_line, action_line, start_line, action_lines};
-ghost use Rattle.log.specs.Inner.{Holds, Holding, lines_of};
+ghost use Rattle.logs.specs.Log.{number, payload, event_line, action_line, start_line, action_lines};
+ghost use Rattle.logs.specs.Inner.{Holds, Holding, lines_of};
 ghost use Rattle.rules.specs.Sheet.{frame_at, frames_of, actions_in, bytes_in};
 ghost use Rattle.rules.specs.Inner.{Wrote};
 

@@ -1,6 +1,6 @@
 // Text over a room from a place on: numbers in decimal, bytes in lower-case hex.
 ghost use Rattle.std.specs.Prelude.{◌≡◌, [], ◌∷◌, ◌+◌, ◌*◌, ◌≤◌, ◌<◌, length};
-ghost use Rattle.log.specs.Log.{digits, decimal, hex_digit, hex};
+ghost use Rattle.logs.specs.Log.{digits, decimal, hex_digit, hex};
 ghost use Rattle.rules.specs.Inner.{Wrote};
 
 // One byte; the place after it is given.

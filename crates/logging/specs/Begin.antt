@@ -1,7 +1,7 @@
 -- The start: what the table is, and what is said where it is refused. Assumes nothing.
 use Rattle.std.specs.Prelude.{ℕ, cond, ◌≡◌, List, [], length, eqb}
 use Rattle.rules.specs.Sheet.{start_of, over}
-use Rattle.log.specs.Log.{start_line}
+use Rattle.logs.specs.Log.{start_line}
 
 -- "A refused start prints `S` and its number only."
 unfoldable pub start_text : List ℕ → List ℕ → List ℕ

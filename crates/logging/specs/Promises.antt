@@ -2,13 +2,13 @@
 use Rattle.std.specs.Prelude.{ℕ, true, false, ◌≢◌, ◌≡◌, List, [], ◌++◌, take}
 use Rattle.std.proofs.Common.{true≢false, sym, ap, ◌∙◌}
 use Rattle.rules.specs.Sheet.{start_of}
-use Rattle.log.specs.Log.{events, joined, log_from, table_after, log_of, Reads}
-use Rattle.log.specs.Inner.{ready}
-use Rattle.log.specs.Promises.{whole_log}
-use Rattle.log.specs.Laws.Stream.{joined_none}
-use Rattle.log.specs.Laws.Reads.{log_started}
-use Rattle.log.specs.Laws.Chunk.{joined_append}
-use Rattle.log.specs.declared.frame.Ready.{Ready}
+use Rattle.logs.specs.Log.{events, joined, log_from, table_after, log_of, Reads}
+use Rattle.logs.specs.Inner.{ready}
+use Rattle.logs.specs.Promises.{whole_log}
+use Rattle.logs.specs.Laws.Stream.{joined_none}
+use Rattle.logs.specs.Laws.Reads.{log_started}
+use Rattle.logs.specs.Laws.Chunk.{joined_append}
+use Rattle.logs.specs.declared.frame.Ready.{Ready}
 use Rattle.reader.specs.Held.{held, Filled}
 use Rattle.reader.specs.declared.place.Place.{Place}
 use Rattle.logging.specs.Turn.{most_events, LogBuffers, Turn, gave, read}

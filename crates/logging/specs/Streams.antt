@@ -5,7 +5,7 @@ use Rattle.reader.specs.Held.{held}
 use Rattle.reader.specs.declared.place.Place.{Place}
 use Rattle.logging.specs.Turn.{most_bytes}
 use Rattle.logging.specs.Turns.{LogTurns, LogRun}
-use Rattle.log.specs.Log.{events, joined, log_from, table_after}
+use Rattle.logs.specs.Log.{events, joined, log_from, table_after}
 
 -- none is empty
 abbrev pub SomeEach : List (List ℕ) → Type 0

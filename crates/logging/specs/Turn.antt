@@ -1,8 +1,8 @@
 -- A turn of the reader: it gives the events that are ready in what is held of the stream to the kernel, and their text lies at
 -- the front of the room; where none is ready it reads. Assumes nothing.
 use Rattle.std.specs.Prelude.{ℕ, ◌+◌, ◌*◌, ◌≤◌, ◌<◌, Bool, true, false, ◌≡◌, List, length, take, drop}
-use Rattle.log.specs.Log.{joined, log_from, table_after}
-use Rattle.log.specs.Inner.{most_text, taken, ready, Many}
+use Rattle.logs.specs.Log.{joined, log_from, table_after}
+use Rattle.logs.specs.Inner.{most_text, taken, ready, Many}
 use Rattle.reader.specs.Held.{Sound, held, Filled}
 use Rattle.reader.specs.declared.place.Place.{Place}
 use Rattle.logging.specs.declared.give.Batch.{Batch}

@@ -1,7 +1,7 @@
 -- A run of the program: turn after turn from the outset, while none has given the last event. Each turn is what the contract of
 -- `turn` says. The loop writes out each turn's text before the next. Assumes nothing.
 use Rattle.std.specs.Prelude.{ℕ, suc, true, false, ◌≡◌, List, [], ◌++◌, take}
-use Rattle.log.specs.Log.{chunk}
+use Rattle.logs.specs.Log.{chunk}
 use Rattle.reader.specs.Held.{outset, came}
 use Rattle.reader.specs.declared.place.Place.{Place}
 use Rattle.logging.specs.Turn.{Turn}

@@ -1,15 +1,15 @@
 // The events that are ready in what is held of the stream, given to the kernel.
 ghost use Rattle.std.specs.Prelude.{◌+◌, ◌*◌, ◌≤◌, ◌<◌, length};
 ghost use Rattle.logging.specs.Turn.{most_events, Gave};
-ghost use Rattle.log.specs.Inner.{most_text};
+ghost use Rattle.logs.specs.Inner.{most_text};
 
-use log::frame::{Ready, count_ready};
+use logs::frame::{Ready, count_ready};
 use serving::serve::{Served, serve};
 
 // At most so many events are given in a turn: their text fits the room, whatever they are.
 const MOST: u64 = 60;
 
-#[derive(Drop)]
+#[derive(Clone, Copy)]
 pub struct Batch {
     pub ready: Ready,
     pub served: Served,

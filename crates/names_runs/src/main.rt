@@ -1,4 +1,5 @@
 // The boundaries of the names layer, run: a script of questions on standard input, and a line with the answer to each.
+#![tactic(auto)]
 mod answer;
 mod command;
 mod into;

@@ -5,7 +5,7 @@ use crate::version::put_version;
 use check::same;
 
 // What is left to do.
-#[derive(Drop)]
+#[derive(Clone, Copy)]
 enum Task {
     // its work: there was no argument
     Work,

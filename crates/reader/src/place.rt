@@ -5,7 +5,7 @@ ghost use Rattle.reader.specs.Held.{Sound, Filled};
 use crate::buffer::{fill, shift};
 
 // The unread bytes of the buffer are those from place up to have. A program gives them on piece by piece, from the front.
-#[derive(Drop)]
+#[derive(Clone, Copy)]
 pub struct Place {
     pub place: usize,
     pub have: usize,

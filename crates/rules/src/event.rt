@@ -1,20 +1,20 @@
 // An event in memory: its sender together with that sender's own kind of message. Payloads stay where they are, and a message
 // says which bytes of the event they are.
 
-#[derive(Drop)]
+#[derive(Clone, Copy)]
 pub struct Part {
     pub at: usize,
     pub len: usize,
 }
 
-#[derive(Drop)]
+#[derive(Clone, Copy)]
 pub enum SeatMessage {
     Key(u8),
     Mouse(Part),
     Open(Part),
 }
 
-#[derive(Drop)]
+#[derive(Clone, Copy)]
 pub enum TabMessage {
     Display(Part),
     Socket { port: usize, host: Part },
@@ -24,13 +24,13 @@ pub enum TabMessage {
 }
 
 // A result or a document: the tab that it is for, and what is passed on.
-#[derive(Drop)]
+#[derive(Clone, Copy)]
 pub struct Delivery {
     pub tab: usize,
     pub body: Part,
 }
 
-#[derive(Drop)]
+#[derive(Clone, Copy)]
 pub enum Event {
     Seat { id: usize, message: SeatMessage },
     Tab { id: usize, message: TabMessage },
@@ -39,7 +39,7 @@ pub enum Event {
 }
 
 // What the bytes of an event are read as.
-#[derive(Drop)]
+#[derive(Clone, Copy)]
 pub enum Reading {
     Whole(Event),
     Malformed,

@@ -1,4 +1,5 @@
 // What the programs share that run a layer's boundaries.
+#![tactic(auto)]
 pub mod changes;
 pub mod dot;
 pub mod hexed;

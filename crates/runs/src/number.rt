@@ -5,7 +5,7 @@ ghost use Rattle.runs.specs.Decimal.{with_digit, decimal};
 use crate::parts::word;
 use terms::byte::wide;
 
-#[derive(Drop)]
+#[derive(Clone, Copy)]
 pub enum Number {
     Is(usize),
     Not,

@@ -14,9 +14,9 @@ use denote.Memory.{cell_at, part_at, part_of}
 use denote.Steps.{only}
 use denote.Struct.Steps.{spelt}
 use denote.Struct.Laws as LL
-use Rattle.log.specs.declared.cursor.Cursor.{Cursor}
-use Rattle.log.specs.contracts.cursor.Cursor as T
-use Rattle.log.proofs.cursor.Cursor.TheLaws as T'
+use Rattle.logs.specs.declared.cursor.Cursor.{Cursor}
+use Rattle.logs.specs.contracts.cursor.Cursor as T
+use Rattle.logs.proofs.cursor.Cursor.TheLaws as T'
 
 -- a cursor's machine values
 abbrev pub vals : Cursor → List Val

@@ -6,7 +6,7 @@ use mathlib.Core.List.{List, [], ◌∷◌}
 use mir.Val.{Val}
 use denote.Laws.{Is}
 use denote.Struct.Laws as LL
-use Rattle.log.specs.contracts.cursor.Cursor as T
+use Rattle.logs.specs.contracts.cursor.Cursor as T
 use Rattle.serving.specs.declared.serve.Served.{Served}
 use Rattle.serving.specs.contracts.serve.Served as S
 use Rattle.serving.proofs.serve.Served.TheLaws as S'

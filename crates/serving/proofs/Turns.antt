@@ -5,9 +5,9 @@ use native.Mathlib.Omega.{arith}
 use mathlib.Core.Path.{◌≡◌, refl, ◌∙◌, subst}
 use mathlib.Core.List.{List}
 use lib.ListN.{length}
-use Rattle.log.specs.Inner.{most_text, Room, One, Many}
-use Rattle.log.specs.declared.cursor.Cursor.{Cursor}
-use Rattle.log.specs.Laws.Serving.{many_none, many_more, many_inside, many_filled}
+use Rattle.logs.specs.Inner.{most_text, Room, One, Many}
+use Rattle.logs.specs.declared.cursor.Cursor.{Cursor}
+use Rattle.logs.specs.Laws.Serving.{many_none, many_more, many_inside, many_filled}
 
 -- where it stands: the cursor, how much of the room is filled, the table and the room
 pub record Point : Type 0 where

@@ -1,15 +1,15 @@
 // Events of the buffered stream, given to the kernel one after another. The reader's position is lent on from frame to frame
 // and moved past each: `next` and `serve` are walks over `give`, which takes it by value.
 ghost use Rattle.std.specs.Prelude.{◌+◌, ◌*◌, ◌≤◌, ◌<◌, length};
-ghost use Rattle.log.specs.Inner.{most_text, Room, One, Many};
+ghost use Rattle.logs.specs.Inner.{most_text, Room, One, Many};
 
 use kernel::stewlattice_step;
 use lines::line::put_lines;
-use log::cursor::Cursor;
-use log::frame::first_bytes;
+use logs::cursor::Cursor;
+use logs::frame::first_bytes;
 
 // The position after an event, and how much of the room its text has filled.
-#[derive(Drop)]
+#[derive(Clone, Copy)]
 pub struct Served {
     pub cursor: Cursor,
     pub filled: usize,

@@ -1,4 +1,5 @@
 // Whether a table is sound, for any bytes: seat by seat, then process row by process row, each looked at once.
+#![tactic(auto)]
 mod count;
 pub mod row;
 mod seat;

@@ -1,4 +1,5 @@
 // The boundaries of the table layer, run: a script of commands on standard input, and what came of each.
+#![tactic(auto)]
 mod ask;
 mod command;
 mod poke;

@@ -2,7 +2,7 @@
 ghost use Rattle.std.specs.Prelude.{◌≡◌, ◌≤◌};
 ghost use Rattle.terms.specs.Names.{legal_options, is_separate, owner_of};
 
-#[derive(Drop)]
+#[derive(Clone, Copy)]
 pub struct Order {
     pub seat: u8,
     pub tenant: u8,
@@ -10,7 +10,7 @@ pub struct Order {
 }
 
 // What the orders say of a seat.
-#[derive(Drop)]
+#[derive(Clone, Copy)]
 pub enum Letting {
     NotLet,
     Let { tenant: u8, options: u8 },

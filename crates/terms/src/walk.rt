@@ -5,7 +5,7 @@ ghost use Rattle.terms.specs.Inner.{is_letter, is_digit, class_of, grown, is_who
 use crate::byte::is_within;
 
 // What a byte is to a name.
-#[derive(Drop)]
+#[derive(Clone, Copy)]
 pub(crate) enum Class {
     Dot,
     Hyphen,
@@ -15,14 +15,14 @@ pub(crate) enum Class {
 }
 
 // The bytes since the last dot: how many, whether the last is a hyphen, whether all are digits.
-#[derive(Drop)]
+#[derive(Clone, Copy)]
 pub(crate) struct Label {
     pub(crate) len: usize,
     pub(crate) hyphen: bool,
     pub(crate) digits: bool,
 }
 
-#[derive(Drop)]
+#[derive(Clone, Copy)]
 pub(crate) enum Walk {
     On(Label),
     Off,

@@ -2,9 +2,9 @@
 use Rattle.std.specs.Prelude.{ℕ, ◌≡◌, true, false, List, [], ◌++◌, length, take, drop}
 use Rattle.std.proofs.Common.{sym, ap, ap₂, ◌∙◌, true≢false, append-nil, append_assoc, arith, length-drop}
 use Rattle.rules.specs.Laws.Over.{over_front}
-use Rattle.log.specs.Log.{joined}
-use Rattle.log.specs.Laws.Stream.{joined_none}
-use Rattle.log.specs.Laws.Chunk.{joined_then}
+use Rattle.logs.specs.Log.{joined}
+use Rattle.logs.specs.Laws.Stream.{joined_none}
+use Rattle.logs.specs.Laws.Chunk.{joined_then}
 use Rattle.reader.specs.Held.{held, came}
 use Rattle.reader.specs.Laws.Comes.{no_more}
 use Rattle.reader.specs.Promises.{held_then}

@@ -5,10 +5,10 @@ use Rattle.std.proofs.lemmas.Bool.{false≢true, eqb-false}
 use Rattle.terms.specs.Names.{sound_book, Answer, suffix_of}
 use Rattle.terms.specs.Laws.Suffix.{suffix_facts}
 use Rattle.terms.specs.Laws.Answer.{suffix_number, suffix_empty, Way, unsound, refused7, given, suffix_way}
-use Rattle.log.specs.Log.{decimal, payload}
+use Rattle.logs.specs.Log.{decimal, payload}
 use Rattle.rules.specs.Inner.{Wrote}
-use Rattle.log.specs.Laws.Digits.{decimal_one}
-use Rattle.log.specs.Laws.Bound.{payload_none, payload_some}
+use Rattle.logs.specs.Laws.Digits.{decimal_one}
+use Rattle.logs.specs.Laws.Bound.{payload_none, payload_some}
 use Rattle.rules.specs.Laws.Wrote.{wrote_is, wrote_three}
 use Rattle.asksuffix.specs.Rule.Answers.{most_text, answer_line}
 

@@ -3,7 +3,7 @@
 use Rattle.std.specs.Prelude.{ℕ, ◌+◌, ◌-◌, ◌≤◌, ◌<◌, ◌≡◌, refl, false, List, [], ◌++◌, length, take}
 use Rattle.std.proofs.Common.{sym, ap, subst, ◌∙◌}
 use native.Mathlib.Omega.{arith}
-use Rattle.log.specs.Log.{chunk}
+use Rattle.logs.specs.Log.{chunk}
 use Rattle.reader.specs.Held.{outset, Sound, held, came}
 use Rattle.asksuffix.specs.Rule.Hosts.{first_host}
 use Rattle.asksuffix.specs.Rule.Answers.{most_text}

@@ -7,7 +7,7 @@ use Rattle.terms.specs.Base.{Bytes}
 use Rattle.terms.specs.Laws.Bools.{cases}
 use Rattle.terms.specs.Names.{num}
 use Rattle.terms.specs.Laws.Num.{num_lt}
-use Rattle.log.specs.Laws.Chunk.{chunk_empty, chunk_some}
+use Rattle.logs.specs.Laws.Chunk.{chunk_empty, chunk_some}
 use Rattle.reader.specs.Held.{held}
 use Rattle.asksuffix.specs.Rule.Hosts.{most_bytes, host_bytes, host_whole}
 use Rattle.asksuffix.specs.Turn.{AskBuffers, last, Turn, stopped}

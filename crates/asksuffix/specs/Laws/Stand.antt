@@ -8,8 +8,8 @@ use mathlib.Core.List.{List, [], ◌++◌, append-nil}
 use Rattle.std.proofs.Math.ListN.{length, drop, length-drop}
 use Rattle.rules.specs.Sheet.{over}
 use Rattle.rules.specs.Laws.Over.{length_over}
-use Rattle.log.specs.Log.{chunk}
-use Rattle.log.specs.Laws.Chunk.{chunk_empty}
+use Rattle.logs.specs.Log.{chunk}
+use Rattle.logs.specs.Laws.Chunk.{chunk_empty}
 use Rattle.reader.specs.Held.{held, came}
 use Rattle.reader.specs.Laws.Comes.{no_more}
 use Rattle.reader.specs.Promises.{held_then, may_come}

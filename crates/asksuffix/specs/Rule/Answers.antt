@@ -2,7 +2,7 @@
 -- question is document 01's, "Names"; the words are the desk log's. Assumes nothing.
 use Rattle.std.specs.Prelude.{ℕ, List, [], ◌∷◌, ◌++◌}
 use Rattle.terms.specs.Names.{suffix_of}
-use Rattle.log.specs.Log.{decimal, payload}
+use Rattle.logs.specs.Log.{decimal, payload}
 use Rattle.asksuffix.specs.Rule.Hosts.{hosts}
 
 -- no line is longer

@@ -9,10 +9,10 @@ use Rattle.terms.specs.Laws.Bools.{cases}
 use Rattle.rules.specs.Sheet.{start_of, number_in, Started, over}
 use Rattle.rules.specs.Laws.Over.{over_nothing, over_front}
 use Rattle.rules.specs.Promises.Step.{start_read}
-use Rattle.log.specs.Log.{start_line, log_of}
-use Rattle.log.specs.Promises.{refused_log}
+use Rattle.logs.specs.Log.{start_line, log_of}
+use Rattle.logs.specs.Promises.{refused_log}
 use Rattle.rules.specs.Inner.{Wrote}
-use Rattle.log.specs.Laws.Bound.{length_start, start_some}
+use Rattle.logs.specs.Laws.Bound.{length_start, start_some}
 use Rattle.logging.specs.Begin.{start_text, Begun}
 
 -- n is the number in the start's answer

@@ -2,13 +2,13 @@
 use Rattle.std.specs.Prelude.{ℕ, ◌+◌, Bool, true, false, ◌≡◌, refl, List, [], ◌++◌, length, take}
 use Rattle.std.proofs.Common.{true≢false, sym, ap, ap₂, ◌∙◌, append-nil, append_assoc, add-zero, zero-add, arith, length-append, length-drop}
 use Rattle.terms.specs.Laws.Bools.{cases}
-use Rattle.log.specs.Log.{events, joined, log_from, table_after}
-use Rattle.log.specs.Inner.{taken}
-use Rattle.log.specs.Laws.Taken.{length_taken, ready_first, ready_all}
-use Rattle.log.specs.Laws.Reads.{log_none, log_append, table_none, table_append}
-use Rattle.log.specs.Laws.Stream.{joined_none}
-use Rattle.log.specs.Laws.Chunk.{joined_then}
-use Rattle.log.specs.declared.frame.Ready.{Ready}
+use Rattle.logs.specs.Log.{events, joined, log_from, table_after}
+use Rattle.logs.specs.Inner.{taken}
+use Rattle.logs.specs.Laws.Taken.{length_taken, ready_first, ready_all}
+use Rattle.logs.specs.Laws.Reads.{log_none, log_append, table_none, table_append}
+use Rattle.logs.specs.Laws.Stream.{joined_none}
+use Rattle.logs.specs.Laws.Chunk.{joined_then}
+use Rattle.logs.specs.declared.frame.Ready.{Ready}
 use Rattle.reader.specs.Held.{held, came}
 use Rattle.reader.specs.Laws.Comes.{no_more}
 use Rattle.reader.specs.Promises.{held_then}

@@ -3,8 +3,8 @@ use Rattle.std.specs.Prelude.{ℕ, ◌+◌, ◌*◌, ◌≤◌, Bool, true, ◌�
 use Rattle.std.proofs.Common.{sym, arith}
 use Rattle.rules.specs.Sheet.{over}
 use Rattle.rules.specs.Laws.Over.{length_over}
-use Rattle.log.specs.Log.{joined, log_from, table_after}
-use Rattle.log.specs.Inner.{most_text, taken, ready, left}
+use Rattle.logs.specs.Log.{joined, log_from, table_after}
+use Rattle.logs.specs.Inner.{most_text, taken, ready, left}
 use Rattle.reader.specs.Held.{Sound, held}
 use Rattle.reader.specs.declared.place.Place.{Place}
 use Rattle.logging.specs.Turn.{most_events, Gave, past, Turn}

@@ -3,9 +3,9 @@ use Rattle.std.specs.Prelude.{ℕ, ◌<◌, Bool, true, false, ◌≡◌, refl, 
 use Rattle.std.proofs.Common.{true≢false, sym, ap, ◌∙◌, append_assoc, arith, length-append}
 use Rattle.std.proofs.lemmas.Bool.{eqb-false}
 use Rattle.terms.specs.Laws.Bools.{cases}
-use Rattle.log.specs.Log as log
-use Rattle.log.specs.Log.{chunk, Reads}
-use Rattle.log.specs.Laws.Chunk.{chunk_empty, chunk_some}
+use Rattle.logs.specs.Log as log
+use Rattle.logs.specs.Log.{chunk, Reads}
+use Rattle.logs.specs.Laws.Chunk.{chunk_empty, chunk_some}
 use Rattle.reader.specs.Held.{held, Filled, came}
 use Rattle.reader.specs.Laws.Comes.{no_more}
 use Rattle.reader.specs.Promises.{held_then, none_came}

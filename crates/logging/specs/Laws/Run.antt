@@ -4,7 +4,7 @@ use Rattle.std.specs.Prelude.{ℕ, ◌+◌, ◌-◌, ◌*◌, ◌≤◌, ◌<◌
 use Rattle.std.proofs.Common.{◌∙◌}
 use native.Mathlib.Omega.{arith}
 use Rattle.rules.specs.Laws.Start.{start_starts}
-use Rattle.log.specs.Log.{chunk}
+use Rattle.logs.specs.Log.{chunk}
 use Rattle.reader.specs.Held.{outset, Sound, came}
 use Rattle.reader.specs.Laws.Past.{outset_sound}
 use Rattle.reader.specs.declared.place.Place.{Place}

@@ -4,10 +4,10 @@ use Rattle.std.proofs.lemmas.Bool.{false≢true}
 use Rattle.std.proofs.Common.{sym, ap, subst, ◌∙◌, append-nil, append_assoc, arith, length-append, leb-true, leb-false, eq-eqb, ne_eqb}
 use Rattle.std.proofs.Math.Seq.{get_or-append_seam}
 use Rattle.terms.specs.Laws.Bools.{cases}
-use Rattle.log.specs.Inner.{ready}
-use Rattle.log.specs.Laws.Chunk.{chunk_empty, chunk_some}
-use Rattle.log.specs.Log.{Serves, reads, closes, serves, quits}
-use Rattle.log.specs.Promises.{serves_exist}
+use Rattle.logs.specs.Inner.{ready}
+use Rattle.logs.specs.Laws.Chunk.{chunk_empty, chunk_some}
+use Rattle.logs.specs.Log.{Serves, reads, closes, serves, quits}
+use Rattle.logs.specs.Promises.{serves_exist}
 use Rattle.reader.specs.Held.{held}
 use Rattle.logging.specs.Turn.{most_events, LogBuffers}
 use Rattle.logging.specs.Turns.{more}

@@ -2,9 +2,9 @@
 -- Assumes nothing.
 use Rattle.std.specs.Prelude.{ℕ, suc, ◌+◌, ◌≤◌, Bool, true, false, ◌≡◌, refl, List, [], ◌++◌, length, eqb}
 use Rattle.std.proofs.Common.{ap, ap₂, ◌∙◌, subst, append-nil, arith, length-drop}
-use Rattle.log.specs.Log.{joined, chunk}
-use Rattle.log.specs.Inner.{taken, ready, left}
-use Rattle.log.specs.Laws.Chunk.{chunk_empty}
+use Rattle.logs.specs.Log.{joined, chunk}
+use Rattle.logs.specs.Inner.{taken, ready, left}
+use Rattle.logs.specs.Laws.Chunk.{chunk_empty}
 use Rattle.reader.specs.Held.{held, came}
 use Rattle.reader.specs.Laws.Comes.{no_more}
 use Rattle.reader.specs.Promises.{held_then, may_come}

@@ -6,12 +6,12 @@ use mathlib.Core.List.{List}
 use Rattle.std.proofs.Math.ListN.{take, drop}
 use Rattle.terms.specs.Laws.Bools.{cases}
 use Rattle.rules.specs.Laws.Over.{over_front, over_past}
-use Rattle.log.specs.Log.{whole, oversized, joined, log_from}
-use Rattle.log.specs.Inner.{most_text, taken, cut, ready}
-use Rattle.log.specs.Laws.First.{rest_small}
-use Rattle.log.specs.Laws.Ready.{ready_frame, ready_cut, ready_few, cut_large, cut_ended}
-use Rattle.log.specs.Laws.Serving.{many_inside, many_zero, many_filled}
-use Rattle.log.specs.declared.frame.Ready.{Ready}
+use Rattle.logs.specs.Log.{whole, oversized, joined, log_from}
+use Rattle.logs.specs.Inner.{most_text, taken, cut, ready}
+use Rattle.logs.specs.Laws.First.{rest_small}
+use Rattle.logs.specs.Laws.Ready.{ready_frame, ready_cut, ready_few, cut_large, cut_ended}
+use Rattle.logs.specs.Laws.Serving.{many_inside, many_zero, many_filled}
+use Rattle.logs.specs.declared.frame.Ready.{Ready}
 use Rattle.reader.specs.Held.{Sound, held, Filled}
 use Rattle.reader.specs.Laws.Fill.{length_held}
 use Rattle.reader.specs.Laws.Past.{held_past}

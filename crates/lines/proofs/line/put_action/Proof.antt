@@ -3,8 +3,8 @@ use Prim.Native.Nat.{ℕ, ◌+◌, ◌-◌}
 use mathlib.Core.Path.{◌≡◌, ap}
 use lib.ListN.{take, drop, length-take}
 use Rattle.terms.specs.Names.{num}
-use Rattle.log.specs.Laws.Bound.{length_number, length_three, length_payload}
-use Rattle.log.specs.Laws.Lines.{wrote_action}
+use Rattle.logs.specs.Laws.Bound.{length_number, length_three, length_payload}
+use Rattle.logs.specs.Laws.Lines.{wrote_action}
 use native.Mathlib.Omega.{arith}
 use borrow.Author.Rules.{rules}
 use Rattle.lines.proofs.line.put_action.Statement.{statement}

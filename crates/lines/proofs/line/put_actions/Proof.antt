@@ -1,5 +1,5 @@
 -- The loop keeps: what is written, followed by the lines of the frames that are left, is all of them. Assumes nothing.
-use Rattle.log.specs.Laws.Actions.{Going, going_none, going_next, going_more, going_all}
+use Rattle.logs.specs.Laws.Actions.{Going, going_none, going_next, going_more, going_all}
 use native.Mathlib.Omega.{arith}
 use borrow.Author.Rules.{rules}
 use Rattle.lines.proofs.line.put_actions.Statement.{statement}

@@ -1,6 +1,6 @@
 -- The letter, the three numbers and the line feed, each where the one before it ends. Assumes nothing.
-use Rattle.log.specs.Laws.Bound.{length_three}
-use Rattle.log.specs.Laws.Lines.{wrote_event}
+use Rattle.logs.specs.Laws.Bound.{length_three}
+use Rattle.logs.specs.Laws.Lines.{wrote_event}
 use native.Mathlib.Omega.{arith}
 use borrow.Author.Rules.{rules}
 use Rattle.lines.proofs.line.put_event.Statement.{statement}

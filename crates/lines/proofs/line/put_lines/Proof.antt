@@ -2,8 +2,8 @@
 use mathlib.Core.Path.{sym}
 use lib.ListN.{length-take}
 use lib.Seq.{length-take-le}
-use Rattle.log.specs.Laws.Bound.{length_event}
-use Rattle.log.specs.Laws.Lines.{wrote_lines}
+use Rattle.logs.specs.Laws.Bound.{length_event}
+use Rattle.logs.specs.Laws.Lines.{wrote_lines}
 use native.Mathlib.Omega.{arith}
 use borrow.Author.Rules.{rules}
 use Rattle.lines.proofs.line.put_lines.Statement.{statement}

@@ -1,5 +1,5 @@
 -- The space, and the number where it ends. Assumes nothing.
-use Rattle.log.specs.Laws.Lines.{wrote_number}
+use Rattle.logs.specs.Laws.Lines.{wrote_number}
 use native.Mathlib.Omega.{arith}
 use borrow.Author.Rules.{rules}
 use Rattle.lines.proofs.line.put_number.Statement.{statement}

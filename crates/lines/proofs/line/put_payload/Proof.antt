@@ -1,5 +1,5 @@
 -- The space, and where it ends the hyphen or the bytes in hex. Assumes nothing.
-use Rattle.log.specs.Laws.Lines.{wrote_dash, wrote_payload}
+use Rattle.logs.specs.Laws.Lines.{wrote_dash, wrote_payload}
 use native.Mathlib.Omega.{arith}
 use borrow.Author.Rules.{rules}
 use Rattle.lines.proofs.line.put_payload.Statement.{statement}

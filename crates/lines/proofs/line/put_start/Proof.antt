@@ -1,6 +1,6 @@
 -- The letter, the number and the line feed, each where the one before it ends. Assumes nothing.
-use Rattle.log.specs.Laws.Bound.{length_number}
-use Rattle.log.specs.Laws.Lines.{wrote_start}
+use Rattle.logs.specs.Laws.Bound.{length_number}
+use Rattle.logs.specs.Laws.Lines.{wrote_start}
 use native.Mathlib.Omega.{arith}
 use borrow.Author.Rules.{rules}
 use Rattle.lines.proofs.line.put_start.Statement.{statement}

@@ -1,5 +1,5 @@
 -- Each number where the one before it ends. Assumes nothing.
-use Rattle.log.specs.Laws.Bound.{length_number}
+use Rattle.logs.specs.Laws.Bound.{length_number}
 use Rattle.rules.specs.Laws.Wrote.{wrote_three}
 use native.Mathlib.Omega.{arith}
 use borrow.Author.Rules.{rules}

@@ -1,7 +1,7 @@
 -- The proof of the cycle of calls {put_digits}. It calls itself with one digit less, which is the measure, and writes the last
 -- digit after the others. Assumes nothing.
 use Prim.Native.Nat.{ℕ, ◌-◌, ◌/◌, ◌<◌}
-use Rattle.log.specs.Laws.Digits.{length_digits, wrote_no_digits, wrote_digit, wrote_digits}
+use Rattle.logs.specs.Laws.Digits.{length_digits, wrote_no_digits, wrote_digit, wrote_digits}
 use native.Mathlib.Omega.{arith}
 use borrow.Author.Rules.{rules}
 use borrow.Fn.Kinds.{In}

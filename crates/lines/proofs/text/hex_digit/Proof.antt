@@ -1,5 +1,5 @@
 -- A figure below ten, a letter from ten on. Assumes nothing.
-use Rattle.log.specs.Laws.Hex.{hex_figure, hex_letter}
+use Rattle.logs.specs.Laws.Hex.{hex_figure, hex_letter}
 use native.Mathlib.Omega.{arith}
 use borrow.Author.Rules.{rules}
 use Rattle.lines.proofs.text.hex_digit.Statement.{statement}

@@ -1,5 +1,5 @@
 -- Twenty digits at most. Assumes nothing.
-use Rattle.log.specs.Laws.Digits.{wrote_decimal}
+use Rattle.logs.specs.Laws.Digits.{wrote_decimal}
 use borrow.Author.Rules.{rules}
 use Rattle.lines.proofs.text.put_decimal.Statement.{statement}
 use Rattle.lines.proofs.text.put_decimal.Tie as tie

@@ -1,7 +1,7 @@
 -- The loop keeps: the bytes before i are written, two digits each, and the rest of the room stays. Assumes nothing.
 use Prim.Native.Nat.{◌-◌}
 use lib.ListN.{length, length-set}
-use Rattle.log.specs.Laws.Hex.{Hexed, hexed_none, hexed_more, hexed_all}
+use Rattle.logs.specs.Laws.Hex.{Hexed, hexed_none, hexed_more, hexed_all}
 use native.Mathlib.Omega.{arith}
 use borrow.Author.Rules.{rules}
 use Rattle.lines.proofs.text.put_hex.Statement.{statement}

@@ -1,5 +1,5 @@
 -- `give::give_ready`: as many events as are ready are served, and they are no more than a turn's.
-use Rattle.log.specs.Laws.Ready.{ready_few}
+use Rattle.logs.specs.Laws.Ready.{ready_few}
 use Rattle.logging.specs.Turn.{most_events}
 use mathlib.Core.Path.{ap}
 use native.Mathlib.Omega.{arith}

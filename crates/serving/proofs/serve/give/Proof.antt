@@ -1,6 +1,6 @@
 -- `serve::give`: what the step and the lines say of the event at the cursor makes one event given.
 use mathlib.Core.Path.{refl}
-use Rattle.log.specs.Laws.Give.{event_is, gave_held, gave_room, gave_one}
+use Rattle.logs.specs.Laws.Give.{event_is, gave_held, gave_room, gave_one}
 use native.Mathlib.Omega.{arith}
 use borrow.Author.Rules.{rules}
 use Rattle.serving.proofs.serve.give.Statement.{statement}

@@ -38,8 +38,8 @@ use denote.Triple.Entry.{on_entry}
 use denote.Triple.Spec.{Meets, triple_of}
 use denote.Triple.Table.{entered, cited}
 use denote.Triple.Walked.{needs, AllGo, Goes-none, Goes-none_slice, Goes-gave_slice, Goes-ref, Walks, walked, walk_Meets}
-use Rattle.log.specs.contracts.cursor.Cursor as T
-use Rattle.log.proofs.cursor.Cursor.TheLaws as T'
+use Rattle.logs.specs.contracts.cursor.Cursor as T
+use Rattle.logs.proofs.cursor.Cursor.TheLaws as T'
 use Rattle.serving.specs.contracts.serve.Served as S
 use Rattle.serving.proofs.serve.Served.TheLaws as S'
 use Rattle.serving.proofs.Local.{vals}

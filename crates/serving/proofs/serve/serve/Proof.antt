@@ -37,9 +37,9 @@ use denote.Triple.Entry.{on_entry}
 use denote.Triple.Spec.{Meets, triple_of}
 use denote.Triple.Table.{entered, cited}
 use denote.Triple.Walked.{needs, AllGo, Goes-none, Goes-none_slice, Goes-slice, Walks, walked, walk_Meets}
-use Rattle.log.specs.declared.cursor.Cursor.{Cursor}
-use Rattle.log.specs.contracts.cursor.Cursor as T
-use Rattle.log.proofs.cursor.Cursor.TheLaws as T'
+use Rattle.logs.specs.declared.cursor.Cursor.{Cursor}
+use Rattle.logs.specs.contracts.cursor.Cursor as T
+use Rattle.logs.proofs.cursor.Cursor.TheLaws as T'
 use Rattle.serving.proofs.Local.{vals, lies_in}
 use Rattle.serving.proofs.Slices.{list, val}
 use Rattle.serving.proofs.Turns.{start}

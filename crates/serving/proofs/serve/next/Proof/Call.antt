@@ -27,9 +27,9 @@ use denote.Triple.Statement.{Contract}
 use denote.Triple.Spec.{triple_of}
 use denote.Triple.Walked.{says}
 use denote.Triple.Clauses.{ensured, lasts}
-use Rattle.log.specs.declared.cursor.Cursor.{Cursor}
-use Rattle.log.specs.contracts.cursor.Cursor as T
-use Rattle.log.proofs.cursor.Cursor.TheLaws as T'
+use Rattle.logs.specs.declared.cursor.Cursor.{Cursor}
+use Rattle.logs.specs.contracts.cursor.Cursor as T
+use Rattle.logs.proofs.cursor.Cursor.TheLaws as T'
 use Rattle.serving.specs.declared.serve.Served.{Served}
 use Rattle.serving.specs.contracts.serve.Served as S
 use Rattle.serving.specs.contracts.serve.give as g

@@ -29,9 +29,9 @@ use denote.Slice.{ShrSlice, Room as Sized, finally}
 use denote.Steps.{owned, nothing}
 use denote.Exit.{yes}
 use denote.Triple.Walked.{says, Stays, stay_ref, stay_none, stay_none_slice, gave_slice, walk_of, ends_at}
-use Rattle.log.specs.Inner.{Room}
-use Rattle.log.specs.declared.cursor.Cursor.{Cursor}
-use Rattle.log.specs.contracts.cursor.Cursor as T
+use Rattle.logs.specs.Inner.{Room}
+use Rattle.logs.specs.declared.cursor.Cursor.{Cursor}
+use Rattle.logs.specs.contracts.cursor.Cursor as T
 use Rattle.serving.specs.contracts.serve.next as f
 use Rattle.serving.proofs.Slices.{Slice, list, val, Token, Reads, Owns, copies}
 use Rattle.serving.proofs.Turns.{Point, Gave}

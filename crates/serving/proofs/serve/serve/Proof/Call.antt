@@ -32,9 +32,9 @@ use denote.Triple.Statement.{Contract}
 use denote.Triple.Spec.{triple_of}
 use denote.Triple.Walked.{says}
 use denote.Triple.Clauses.{ensured, lasts}
-use Rattle.log.specs.Inner.{Room}
-use Rattle.log.specs.declared.cursor.Cursor.{Cursor}
-use Rattle.log.specs.contracts.cursor.Cursor as T
+use Rattle.logs.specs.Inner.{Room}
+use Rattle.logs.specs.declared.cursor.Cursor.{Cursor}
+use Rattle.logs.specs.contracts.cursor.Cursor as T
 use Rattle.serving.specs.contracts.serve.next as g
 use Rattle.serving.proofs.Slices.{list, val, Token, Reads, Lent, Owns, Kept, at_list, copies, lends, back}
 use Rattle.serving.proofs.Turns.{Point, OneAt, Gave, filled_fits, can_give}

@@ -24,8 +24,8 @@ use denote.Steps.{only, owned, facts}
 use denote.Struct.Laws as LL
 use denote.Exit.{yes}
 use denote.Triple.Walked.{says, Stays, stay_none, stay_none_slice, stay_slice, walk_of, ends_at}
-use Rattle.log.specs.contracts.cursor.Cursor as T
-use Rattle.log.proofs.cursor.Cursor.TheLaws as T'
+use Rattle.logs.specs.contracts.cursor.Cursor as T
+use Rattle.logs.proofs.cursor.Cursor.TheLaws as T'
 use Rattle.serving.specs.contracts.serve.Served as S
 use Rattle.serving.proofs.serve.Served.TheLaws as S'
 use Rattle.serving.specs.contracts.serve.serve as f

@@ -35,8 +35,8 @@ use denote.Steps.{only}
 use denote.Struct.Laws as LL
 use denote.Triple.Statement.{Triple}
 use denote.Triple.Call.{calls_at}
-use Rattle.log.specs.contracts.cursor.Cursor as T
-use Rattle.log.proofs.cursor.Cursor.TheLaws as T'
+use Rattle.logs.specs.contracts.cursor.Cursor as T
+use Rattle.logs.proofs.cursor.Cursor.TheLaws as T'
 use Rattle.serving.specs.contracts.serve.Served as S
 use Rattle.serving.proofs.serve.Served.TheLaws as S'
 use Rattle.serving.proofs.serve.next.Symbol.{name as #next}

@@ -1,4 +1,0 @@
--- What the contracts of the functions cite besides Log, shut as there. Assumes nothing.
-pub use Rattle.log.specs.Rule.Written.{Holds, Holding, lines_of}
-pub use Rattle.log.specs.Rule.Reading.{taken, one_more, cut, ready, left}
-pub use Rattle.log.specs.Rule.Serving.{most_text, event_at, moved_past, Room, One, Many}
