@@ -1,5 +1,6 @@
 // The bytes of an event, read as what stands for it in memory.
 #![tactic(auto)]
+
 ghost use Rattle.std.specs.Prelude.{◌≡◌, ◌&&◌, ◌+◌, ◌≤◌, length, eqb, leb};
 ghost use Rattle.rules.specs.Sheet.{reading_of};
 ghost use Rattle.rules.specs.Inner.{sized, from_seat, from_tab, sent_by, delivered, rest};

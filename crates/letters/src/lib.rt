@@ -1,6 +1,7 @@
 // The letters of a process row's room. Each loop looks at every letter and leaves nowhere on its way, so that it is compiled to
 // instructions that look at sixteen at once.
 #![tactic(auto)]
+
 pub mod spell;
 
 ghost use Rattle.std.specs.Prelude.{◌≡◌, not, eqb};

@@ -1,5 +1,6 @@
 // The order book and the suffix question of document 01.
 #![tactic(auto)]
+
 ghost use Rattle.terms.specs.Names.{suffix_of, Answered};
 ghost use Rattle.terms.specs.Inner.{no_part};
 

@@ -1,5 +1,6 @@
 // Whether a table is sound, for any bytes: seat by seat, then process row by process row, each looked at once.
 #![tactic(auto)]
+
 mod count;
 pub mod row;
 mod seat;

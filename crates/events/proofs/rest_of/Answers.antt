@@ -1,0 +1,6 @@
+-- The part is the definition's. Assumes nothing.
+use Rattle.rules.specs.Steps.Read.{rest_is}
+use Rattle.events.proofs.rest_of.Goals as goal
+
+pub returns : goal.returns
+returns c = rest_is _ _

@@ -1,0 +1,6 @@
+-- The sum is the definition. Assumes nothing.
+use Rattle.rules.specs.Steps.Answer.{packed_is}
+use Rattle.frames.proofs.answer.pack.Goals as goal
+
+pub returns : goal.returns
+returns c = packed_is _ _ _
