@@ -120,18 +120,19 @@ module _ (t₁ t₂ b₁ b₂ e : List ℕ) where
       both (Outcomes Equal) h.0 _ _ _ _ (λ _. (refl, refl))
       (λ z. seat_same (desk_at t₁ s) (desk_at t₂ s) refl b₁ b₂ e m (h.1 (eqb-false (view t₁ (tenant s)) 0 z)))
   event_same (Tab i m) h =
-      at_alike Equal t₁ t₂ i _ _ _ (λ s r k j seat id z. tab_same (desk_at t₁ s) (desk_at t₂ r) seat k j id b₁ b₂ e m z) refl 4 h
+      at_alike Equal t₁ t₂ i (λ d₁ k₁ d₂ k₂. SameTab d₁ k₁ d₂ k₂ m) _ _
+      (λ s r k j seat id z. tab_same (desk_at t₁ s) (desk_at t₂ r) seat k j id b₁ b₂ e m z) refl 4 h
   event_same (Process n d) h =
       let p = eqb (process_of (view t₁) n) 0 in
       let q = eqb (process_of (view t₂) n) 0 in
       both (Outcomes Equal) (sym (not-not p) ∙ ap not h.0 ∙ not-not q) _ _ _ _ (λ _. (refl, refl))
-      (λ live. at_alike Equal t₁ t₂ d.tab _ _ _
+      (λ live. at_alike Equal t₁ t₂ d.tab (SameResult n) _ _
       (λ s r k j seat id z. result_same (desk_at t₁ s) (desk_at t₂ r) seat k j id n (part e d.body) z) refl 10
       (h.1 (ap not live)))
   event_same (Network n d) h =
       let one : not (eqb n 0) ≡ not (eqb n 0) = refl in
       both (Outcomes Equal) one _ _ _ _ (λ _. (refl, refl))
-      (λ zero. at_alike Equal t₁ t₂ d.tab _ _ _
+      (λ zero. at_alike Equal t₁ t₂ d.tab SameDocument _ _
       (λ s r k j seat id z. document_same (desk_at t₁ s) (desk_at t₂ r) seat k j id (part e d.body) z) refl 10
       (h (eqb-true n 0 (not-false (eqb n 0) zero))))
 
@@ -182,9 +183,9 @@ both_self t R f (At s k) = f (desk_at t s) k
 
 self_for : (t b e : List ℕ) (v : Event) → SameFor t t b b e v
 self_for t b e (Seat s m) = (refl, λ _. seat_self (desk_at t s) b e m)
-self_for t b e (Tab i m) = both_self t _ (tab_self m) (tab_of (view t) i)
-self_for t b e (Process n r) = (refl, λ _. both_self t _ (λ d k. (refl, refl)) (tab_of (view t) r.tab))
-self_for t b e (Network n r) = λ _. both_self t _ (λ d k. refl) (tab_of (view t) r.tab)
+self_for t b e (Tab i m) = both_self t (λ d₁ k₁ d₂ k₂. SameTab d₁ k₁ d₂ k₂ m) (tab_self m) (tab_of (view t) i)
+self_for t b e (Process n r) = (refl, λ _. both_self t (SameResult n) (λ d k. (refl, refl)) (tab_of (view t) r.tab))
+self_for t b e (Network n r) = λ _. both_self t SameDocument (λ d k. refl) (tab_of (view t) r.tab)
 
 -- a table and a book agree with themselves
 pub agree_self : (t b e : List ℕ) → Agree t t b b e

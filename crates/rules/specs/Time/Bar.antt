@@ -85,7 +85,7 @@ module _ {book : List ℕ} {cs : List Call} {t : List ℕ} (h : History book cs 
   marks_bar : {u : List ℕ} {s k : ℕ} → Marks t u s k → Barred cs u
   marks_bar {u = u} o r = same u r (o.chosen= r) (λ k l. (o.still.tab r k l).suffix=)
 
-  bar_step : {x : Outcome} (b e : List ℕ) (n r : ℕ) → Happens t b e x
+  bar_step : (b e : List ℕ) (n r : ℕ) {x : Outcome} → Happens t b e x
       → Barred (step t b e n r x.actions x.table ∷ cs) x.table
   unfolding actions latest carried is_frame
   bar_step b e n r (nothing m _) = rw (refused_is m t) w

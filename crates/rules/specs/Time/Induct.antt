@@ -62,6 +62,7 @@ pub record Each (Q : List ℕ → List Call → Call → Type 0) : Type 0 where
 pub each_call : (Q : List ℕ → List Call → Call → Type 0) {book : List ℕ} {cs : List Call} {t : List ℕ} → Each Q
     → History book cs t → (c : Call) (earlier : List Call) → Past c earlier cs
     → Q book earlier c
+each_call Q k (started lent b w z) c earlier p = elim p [ ]
 each_call Q k (stepped {book = book} {cs = cs} {t = t} h b e {o = o} {r = r} w) c earlier newest =
     let x = step_of (length o) t b e in
     subst (λ (u : List ℕ). Q book cs (step t b e (length o) r x.actions u)) (sym w.table)

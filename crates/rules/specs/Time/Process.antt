@@ -1,6 +1,6 @@
 -- Processes: what a live process was started with is its owner and its name, as its row has them. Assumes nothing.
 use Rattle.std.specs.Prelude.{ℕ, ◌+◌, ◌≡◌, refl, true, cond, ◌≢◌, List, ◌∷◌, ◌++◌, drop, eqb}
-use Rattle.std.proofs.Common.{sym, ap, ◌∙◌, arith}
+use Rattle.std.proofs.Common.{sym, ap, subst, ◌∙◌, arith}
 use Rattle.std.proofs.lemmas.Bool.{false≢true}
 use Rattle.std.proofs.Math.Logic.{⊎_elim}
 use borrow.Author.Tests.{eq-eqb, ne_eqb}
@@ -35,7 +35,9 @@ module _ (book : List ℕ) (cs : List Call) (t : List ℕ) (h : Begun book cs t)
       → used (view u) p ≡ true
       → latest 5 (view u (number p)) 3 (c ∷ cs) ≡ be 1 (view u (owner p)) ++ name_of (view u) p
   unfolding latest
-  stays c u p w f l = rw (w.number=, w.owner=, w.name=, f (latest 5 (view t (number p)) 3 cs)) (h p (sym w.used= ∙ l))
+  stays c u p w f l =
+      subst (λ (n : ℕ). latest 5 n 3 (c ∷ cs) ≡ be 1 (view u (owner p)) ++ name_of (view u) p) (sym w.number=)
+      (rw (w.owner=, w.name=) (f (latest 5 (view t (number p)) 3 cs) ∙ h p (sym w.used= ∙ l)))
 
   quiet : (c : Call) (u : List ℕ) → StartsNone (actions c) → ((p : ℕ) → used (view u) p ≡ true → SameRow t u p)
       → Begun book (c ∷ cs) u
@@ -68,7 +70,10 @@ module _ (book : List ℕ) (cs : List Call) (t : List ℕ) (h : Begun book cs t)
   begins c u s q x g w f p l =
       let m = view t last + 1 in
       ⊎_elim
-      (λ (e : p ≡ q). rw (e, w.number!, w.owner!, w.name!, f m (latest 5 m 3 cs), eq-eqb m m refl))
+      (λ (e : p ≡ q).
+      subst (λ (i : ℕ). latest 5 (view u (number i)) 3 (c ∷ cs) ≡ be 1 (view u (owner i)) ++ name_of (view u) i) (sym e)
+      (subst (λ (n : ℕ). latest 5 n 3 (c ∷ cs) ≡ be 1 (view u (owner q)) ++ name_of (view u) q) (sym w.number!)
+      (rw (w.owner!, w.name!) (f m (latest 5 m 3 cs) ∙ rw (eq-eqb m m refl)))))
       (λ (n : p ≢ q).
       let y = w.others p n in
       let a = number_fits_lem t p (history_sound g) (sym y.used= ∙ l) in

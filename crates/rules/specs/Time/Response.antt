@@ -4,7 +4,7 @@ use Rattle.std.specs.Prelude.{ℕ, ◌≤◌, ◌≡◌, refl, ◌≢◌, ◌⊎
 use Rattle.std.proofs.Math.Path.{sym}
 use Rattle.std.proofs.Common.{ap, ◌∙◌}
 use Rattle.rules.specs.Rule.Call.{Call, step, start, Past, newest, older, party_of, tag_of}
-use Rattle.rules.specs.Rule.History.{History, stepped, unstarted}
+use Rattle.rules.specs.Rule.History.{History, started, stepped, unstarted}
 use Rattle.rules.specs.Rule.Event.{reading_of}
 use Rattle.rules.specs.Rule.Step.{Outcome, room_needed, read_rule, answer}
 use Rattle.rules.specs.Rule.Response.{StepMade, SameReply, Alike, Agree}
@@ -32,6 +32,7 @@ Ruled (start t b r u) earlier = Unit {0}
 past_ruled : {book : List ℕ} {cs : List Call} {t : List ℕ} → History book cs t → (c : Call) (earlier : List Call)
     → Past c earlier cs
     → Ruled c earlier
+past_ruled (started lent b w z) c earlier p = elim p [ ]
 past_ruled (stepped {book = book} {t = t} h b e {o = o} w) c earlier newest = λ enough.
     let q = step_reads (length o) t b e enough (history_sound h) in
     record {

@@ -78,7 +78,7 @@ to_tab : {e : List ℕ} {party n i : ℕ} → From e party 1 n → party ≢ 2 �
 unfolding tab_named party_of id_of
 to_tab {e} f h w = rw (ne_eqb (get_or e 0 0) 2 (λ q. h (sym f.head.party= ∙ q))) w.tab
 
-waits_step : {t : List ℕ} {x : Outcome} (b e : List ℕ) (n r : ℕ) → sound_table t ≡ true → Happens t b e x
+waits_step : {t : List ℕ} (b e : List ℕ) (n r : ℕ) {x : Outcome} → sound_table t ≡ true → Happens t b e x
     → Waits (step t b e n r x.actions x.table)
 unfolding event table left party_of
 waits_step {t} b e n r h (nothing m _) = rw (refused_is m t) (λ p g w. refl)
@@ -134,7 +134,7 @@ no_control c d = absurd (false≢true (sym c ∙ d))
 no_seat : {A : Type 0} {e : List ℕ} {party tag i : ℕ} → From e party tag i → 2 ≤ party → get_or e 0 0 ≡ 1 → A
 no_seat f h p = absurd (let q = f.head.party= in omega arith)
 
-keeps_step : {t : List ℕ} {x : Outcome} (b e : List ℕ) (n r : ℕ) → Happens t b e x
+keeps_step : {t : List ℕ} (b e : List ℕ) (n r : ℕ) {x : Outcome} → Happens t b e x
     → Keeps (step t b e n r x.actions x.table)
 unfolding event table left party_of
 keeps_step {t} b e n r (nothing m _) = rw (refused_is m t) (λ p c. refl)

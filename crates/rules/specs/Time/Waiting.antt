@@ -30,7 +30,7 @@ told_idle : {cs : List Call} {t : List ℕ} {c : Call} → actions c ≡ [] → 
 unfolding sends reaches
 told_idle e told = silent told (mute _ _ (λ i. rw e) (λ i. rw e) (rw e) (rw e))
 
-told_step : {cs : List Call} {t : List ℕ} {x : Outcome} (b e : List ℕ) (n r : ℕ) → sound_table t ≡ true → Tells cs t
+told_step : {cs : List Call} {t : List ℕ} (b e : List ℕ) (n r : ℕ) {x : Outcome} → sound_table t ≡ true → Tells cs t
     → Happens t b e x
     → Tells (step t b e n r x.actions x.table ∷ cs) x.table
 unfolding actions sends is_frame reaches

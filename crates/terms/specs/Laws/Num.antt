@@ -1,6 +1,6 @@
 -- Numbers of any width at any offset: what is read after a write, once over the offset and the width. Assumes nothing.
 use Rattle.std.specs.Prelude.{◌≡◌, refl, List, ◌≢◌, ℕ, zero, suc, ◌+◌, ◌*◌, ◌/◌, ◌%◌, ◌^◌, ◌≤◌, ◌<◌, length, get_or, set}
-use Rattle.std.proofs.Common.{ap, ap₂, ◌∙◌, sym, pow-suc, div-lt_iff_lt-mul, add-suc, add-zero, zero-add, zero-mul, mul-one, mul_comm, arith, length-set, get_or-set_same, get_or-set_other}
+use Rattle.std.proofs.Common.{ap, ap₂, subst, ◌∙◌, sym, pow-suc, div-lt_iff_lt-mul, add-suc, add-zero, zero-add, zero-mul, mul-one, mul_comm, arith, length-set, get_or-set_same, get_or-set_other}
 use Rattle.std.proofs.Math.Nat.{div-div-eq-div-mul}
 use Rattle.terms.specs.Rule.Num.{num, put}
 
@@ -79,7 +79,8 @@ put_add t at v (suc w) x =
     let d : x / 256 ^ suc w ≡ x / 256 / 256 ^ w
     = ap (λ (y : ℕ). x / y) (pow-suc 256 w ∙ mul_comm (256 ^ w) 256) ∙ sym (div-div-eq-div-mul x 256 (256 ^ w)) in
     let a : at + (v + w) ≡ at + v + w = omega arith in
-    rw (add-suc, d, a, put_add t at v w (x / 256))
+    subst (λ y. put t at (v + suc w) x ≡ put (put t at v y) (at + v) (suc w) x) (sym d)
+    (rw add-suc (ap₂ (λ (l : List ℕ) (p : ℕ). set l p (x % 256)) (put_add t at v w (x / 256)) a))
 
 -- ---- the widths in use
 
