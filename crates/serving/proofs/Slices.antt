@@ -9,12 +9,13 @@ use Prim.Native.Nat.{ℕ}
 use mathlib.Core.List.{List, [], ◌∷◌}
 use lib.ListN.{length}
 use seplogic.Ra.Ura.{Ura}
-use mir.Syntax.{named}
+use mir.Syntax.{named, w8}
 use mir.Val.{Val}
 use base.Logic.{SProp, ent, sep, ex}
 use base.Fml.{Lft, GName, Share, Fml, flft}
 use types.Logic.{Logic, sem}
 use denote.Builtin.{u8}
+use denote.Plain.{uint_row_laws}
 use denote.Ref.{Bor, MutBor}
 use denote.Slice.{slice_val, ShrSlice, MutSlice, Room as Sized, finally, shr_slice_copy}
 use Rattle.serving.proofs.Again.{LentAgain, lends_again, comes_back}
@@ -23,24 +24,28 @@ use Rattle.serving.proofs.Again.{LentAgain, lends_again, comes_back}
 pub record Slice : Type 0 where
   pub lft : Lft
   pub share : Share
-  pub ref : Bor (List ℕ)
+  pub ref : MutBor (List ℕ)
 
 module _ (x : Slice) where
   abbrev pub list : List ℕ
   list = x.ref.now
 
   abbrev pub spot : ℕ × ℕ
-  spot = (x.ref.ptr.0, x.ref.ptr.1)
+  spot = (x.ref.ref_ptr.0, x.ref.ref_ptr.1)
 
   abbrev pub val : Val
   val = slice_val spot (length list)
+
+  -- as a `&[u8]`
+  abbrev pub read : Bor (List ℕ)
+  read = record { ref_ptr = spot; now = list }
 
   abbrev pub Token : Fml
   Token = flft x.lft x.share
 
   -- what a `&[u8]` owns; i is the lifetime's number in the signature
   abbrev pub Reads : ℕ → Fml
-  Reads i = (ShrSlice (named i) x.lft u8).own_val x.ref (val ∷ [])
+  Reads i = (ShrSlice (named i) x.lft u8).own_val read (val ∷ [])
 
   -- what a `&mut [u8]` owns at the list ys: lent as δ at the lifetime κ, and as it was passed
   abbrev pub at_list : GName → List ℕ → MutBor (List ℕ)
@@ -50,15 +55,15 @@ module _ (x : Slice) where
   Lent i κ δ ys = (MutSlice (named i) κ u8).own_val (at_list δ ys) (val ∷ [])
 
   abbrev pub Owns : ℕ → List ℕ → Fml
-  Owns i ys = Lent i x.lft x.ref.name ys
+  Owns i ys = Lent i x.lft x.ref.ghost_name ys
 
   -- what is kept while it is lent again
   abbrev pub Kept : ℕ → GName → List ℕ → Fml
-  Kept ν δ ys = LentAgain u8 x.lft (ν ∷ []) x.share x.ref.name spot.0 spot.1 δ ys
+  Kept ν δ ys = LentAgain u8 x.lft (ν ∷ []) x.share x.ref.ghost_name spot.0 spot.1 δ ys
 
   pub copies : {M : Type 1} {𝓤 : Ura M} (𝓛 : Logic 𝓤) (i : ℕ)
       → ent 𝓤 (sem 𝓛 (Reads i)) (sep 𝓤 (sem 𝓛 (Reads i)) (sem 𝓛 (Reads i)))
-  copies 𝓛 i = (shr_slice_copy 𝓛 (named i) x.lft u8).twice x.ref (val ∷ [])
+  copies 𝓛 i = (shr_slice_copy 𝓛 (named i) x.lft u8 (uint_row_laws w8)).twice read (val ∷ [])
 
   module _ {M : Type 1} {𝓤 : Ura M} (𝓛 : Logic 𝓤) (i ν : ℕ) (ys : List ℕ)
       (e : length ys ≡ length list) where
@@ -70,9 +75,9 @@ module _ (x : Slice) where
 
     pub lends : ent 𝓤 (sep 𝓤 (sem 𝓛 (Owns i ys)) (sem 𝓛 Token))
         (H.⇛ (ex 𝓤 (λ (δ : GName). sep 𝓤 (sem 𝓛 (Lent i (ν ∷ []) δ ys)) (sem 𝓛 (Kept ν δ ys)))))
-    lends = subst (λ (m : ℕ). ent 𝓤 (sep 𝓤 (Counted x.lft x.ref.name ys m) (sem 𝓛 Token))
+    lends = subst (λ (m : ℕ). ent 𝓤 (sep 𝓤 (Counted x.lft x.ref.ghost_name ys m) (sem 𝓛 Token))
         (H.⇛ (ex 𝓤 (λ (δ : GName). sep 𝓤 (Counted (ν ∷ []) δ ys m) (sem 𝓛 (Kept ν δ ys)))))) e
-        (lends_again u8 x.lft (ν ∷ []) x.share x.ref.name spot.0 spot.1 𝓛 (named i) (named i) ys)
+        (lends_again u8 x.lft (ν ∷ []) x.share x.ref.ghost_name spot.0 spot.1 𝓛 (named i) (named i) ys)
 
     abbrev Left : GName → List ℕ → SProp 𝓤
     Left δ zs = sep 𝓤 (A.dead (ν ∷ [])) (sep 𝓤 (sem 𝓛 (Kept ν δ ys)) (sem 𝓛 (finally u8 δ zs)))
@@ -80,6 +85,6 @@ module _ (x : Slice) where
     pub back : (δ : GName) (zs : List ℕ) → Sized u8 (length list) → length zs ≡ length ys
         → ent 𝓤 (Left δ zs) (H.⇛ (sep 𝓤 (sem 𝓛 (Owns i zs)) (sem 𝓛 Token)))
     back δ zs sized l = subst
-        (λ (m : ℕ). ent 𝓤 (Left δ zs) (H.⇛ (sep 𝓤 (Counted x.lft x.ref.name zs m) (sem 𝓛 Token)))) e
-        (comes_back u8 x.lft (ν ∷ []) x.share x.ref.name spot.0 spot.1 𝓛 (named i) (named i) ys δ zs
+        (λ (m : ℕ). ent 𝓤 (Left δ zs) (H.⇛ (sep 𝓤 (Counted x.lft x.ref.ghost_name zs m) (sem 𝓛 Token)))) e
+        (comes_back u8 x.lft (ν ∷ []) x.share x.ref.ghost_name spot.0 spot.1 𝓛 (named i) (named i) ys δ zs
         (subst (Sized u8) (sym e) sized) l)

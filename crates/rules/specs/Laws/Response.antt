@@ -120,7 +120,8 @@ module _ (t₁ t₂ b₁ b₂ e : List ℕ) where
       both (Outcomes Equal) h.0 _ _ _ _ (λ _. (refl, refl))
       (λ z. seat_same (desk_at t₁ s) (desk_at t₂ s) refl b₁ b₂ e m (h.1 (eqb-false (view t₁ (tenant s)) 0 z)))
   event_same (Tab i m) h =
-      at_alike Equal t₁ t₂ i (λ d₁ k₁ d₂ k₂. SameTab d₁ k₁ d₂ k₂ m) _ _ (λ s r k j seat id z. tab_same (desk_at t₁ s) (desk_at t₂ r) seat k j id b₁ b₂ e m z) refl 4 h
+      at_alike Equal t₁ t₂ i (λ d₁ k₁ d₂ k₂. SameTab d₁ k₁ d₂ k₂ m) _ _
+      (λ s r k j seat id z. tab_same (desk_at t₁ s) (desk_at t₂ r) seat k j id b₁ b₂ e m z) refl 4 h
   event_same (Process n d) h =
       let p = eqb (process_of (view t₁) n) 0 in
       let q = eqb (process_of (view t₂) n) 0 in
