@@ -1,4 +1,5 @@
 // The rules of a seat: its keys, its mouse, its open.
 #![tactic(auto)]
+
 pub mod keys;
 pub mod open;

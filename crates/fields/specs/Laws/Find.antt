@@ -18,7 +18,6 @@ use Rattle.fields.specs.Rule.View.{View, number, owner, size, letter}
 use Rattle.fields.specs.Rule.Word.{live, used, name_of}
 use Rattle.fields.specs.Rule.Clause.{good_name}
 use Rattle.fields.specs.Rule.Find.{process_of, process_with, free_slot, free_process, live_tabs}
-use Rattle.fields.specs.Laws.Each.{range}
 use Rattle.fields.specs.Laws.Sum.{count_lt, count_all}
 use Rattle.fields.specs.Laws.Series.{length_series}
 use Rattle.fields.specs.Laws.Lowest.{lowest_at, lowest_nil}

@@ -3,7 +3,7 @@ use Rattle.std.specs.Prelude.{◌≡◌, true, ◌≢◌, List, ℕ, ◌+◌, �
 use Rattle.std.proofs.Math.Path.{refl, ap}
 use Rattle.std.proofs.Common.{◌∙◌, ⊎_elim, arith, eq-eqb, ne_eqb}
 use Rattle.std.proofs.Math.ListN.{length}
-use Rattle.fields.specs.Rule.View.{View, row}
+use Rattle.fields.specs.Rule.View.{View}
 use Rattle.fields.specs.Rule.Layout.{table_bytes, most_opens, view}
 use Rattle.fields.specs.Rule.Sound.{sound_table}
 use Rattle.fields.specs.Rule.Word.{owner_at}

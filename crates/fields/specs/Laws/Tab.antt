@@ -15,7 +15,6 @@ use Rattle.fields.specs.Rule.Layout.{form, most_opens, tab_id, seat_of_id, seria
 use Rattle.fields.specs.Rule.Word.{live}
 use Rattle.fields.specs.Rule.Find.{slot_of, place_in, tab_of}
 use Rattle.fields.specs.declared.place.Place.TheVariants.{Nowhere, At}
-use Rattle.fields.specs.Laws.Each.{range}
 use Rattle.fields.specs.Laws.Lowest.{lowest_at, lowest_is}
 use Rattle.fields.specs.Laws.Sound.{Sound}
 

@@ -6,7 +6,7 @@ use native.Mathlib.Omega.{arith}
 use borrow.Author.Tests.{eqb-false}
 use Rattle.terms.specs.Laws.Bools.{or_fails}
 use Rattle.terms.specs.Base.{Range}
-use Rattle.fields.specs.Rule.View.{View, there, selected, row, waiting}
+use Rattle.fields.specs.Rule.View.{View, selected, row, waiting}
 use Rattle.fields.specs.Rule.Layout.{most_opens, view, write}
 use Rattle.fields.specs.Rule.Sound.{sound_table}
 use Rattle.fields.specs.Rule.Word.{live}

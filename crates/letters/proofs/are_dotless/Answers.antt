@@ -1,5 +1,5 @@
 -- The loop keeps: whether the letters up to j are no dots. Assumes nothing.
-use Rattle.std.proofs.Common.{ap, eqb, not, ℕ, ◌-◌}
+use Rattle.std.proofs.Common.{ap, eqb, not, ℕ}
 use Rattle.fields.specs.Laws.Each.{tested_start, tested_on}
 use Rattle.letters.proofs.are_dotless.Goals as goal
 

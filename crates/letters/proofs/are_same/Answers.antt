@@ -1,5 +1,5 @@
 -- The loop keeps: whether the letters up to j are the same. Assumes nothing.
-use Rattle.std.proofs.Common.{ap₂, eqb, ℕ, ◌-◌}
+use Rattle.std.proofs.Common.{ap₂, eqb, ℕ}
 use Rattle.fields.specs.Laws.Each.{tested_start, tested_on}
 use Rattle.letters.proofs.are_same.Goals as goal
 

@@ -1,5 +1,5 @@
 -- The loop keeps: whether the letters up to j are no capitals. Assumes nothing.
-use Rattle.std.proofs.Common.{ap, ap₂, eqb, ℕ, ◌-◌, ◌∙◌}
+use Rattle.std.proofs.Common.{ap, ap₂, eqb, ℕ, ◌∙◌}
 use Rattle.fields.specs.Laws.Each.{tested_start, tested_on}
 use Rattle.terms.specs.Names.{lower}
 use Rattle.letters.proofs.are_small.Goals as goal

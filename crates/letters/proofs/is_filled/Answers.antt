@@ -1,5 +1,5 @@
 -- The loop keeps: whether the places up to j belong to the name or are zero, and j is past the name. Assumes nothing.
-use Rattle.std.proofs.Common.{arith, ◌-◌}
+use Rattle.std.proofs.Common.{arith}
 use Rattle.fields.specs.Table.{view}
 use Rattle.fields.specs.Steps.Row.{fill_start, fill_more, fill_done}
 use Rattle.letters.proofs.is_filled.Goals as goal

@@ -2,7 +2,7 @@
 -- reasons about steps, and about histories of them, matches on it and needs no rule. Assumes nothing.
 use Rattle.std.specs.Prelude.{ℕ, ◌+◌, ◌≤◌, ◌≡◌, refl, true, false, not, ◌&&◌, ◌≢◌, List, [], ◌∷◌, length, get_or, take, drop}
 use Rattle.terms.specs.Names.{folded, sound_book, num}
-use Rattle.fields.specs.Table.{selected, row, number, tabs, last, view, owner_at}
+use Rattle.fields.specs.Table.{selected, row, tabs, last, view, owner_at}
 use Rattle.fields.specs.Table.{process_with, Openable, Closable, opened, picked, closed, waits, marked, unmarked, TabLive}
 use Rattle.fields.specs.Table.{sound_table}
 use Rattle.fields.specs.declared.mark.Mark.TheVariants.{Cookie, Document}

@@ -14,7 +14,7 @@ use Rattle.rules.specs.Rule.Demand.{Ways, Way}
 use Rattle.rules.specs.Rule.Quark.{Socketed, Sockets, Requests, Cookies, Painted, Display}
 use Rattle.rules.specs.Rule.Ids.{Documents}
 use Rattle.rules.specs.Rule.Desk.{id_at, suffix_at}
-use Rattle.rules.specs.Sheet.{be, cookie, Outcome}
+use Rattle.rules.specs.Sheet.{be, Outcome}
 use Rattle.rules.specs.Laws.Allow.{cookie_inside, socket_inside}
 use Rattle.rules.specs.Laws.Happens.{domain_in, cookie_in, Happens, refused_is, nothing, joins, renews, selects}
 use Rattle.rules.specs.Laws.Happens.{leaves, ends, types, points, paints, sockets, fetches, stores, gets, denies, results}

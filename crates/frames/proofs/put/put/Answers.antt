@@ -1,6 +1,6 @@
 -- The loop keeps: j bytes of x are written, folded or as they are, and the rest of the room stays. Each turn writes one more.
 -- Assumes nothing.
-use Rattle.std.proofs.Common.{arith, ◌-◌}
+use Rattle.std.proofs.Common.{arith}
 use Rattle.rules.specs.Steps.Put.{written_none, written_more, written_all}
 use Rattle.frames.proofs.put.put.Goals as goal
 

@@ -1,6 +1,6 @@
 -- The loop keeps: the first j of the row's 64 bytes are the folded name's, zeros after its end. Each turn writes
 -- one more. Assumes nothing.
-use Rattle.std.proofs.Common.{arith, ◌-◌}
+use Rattle.std.proofs.Common.{arith}
 use Rattle.terms.specs.Names.{folded}
 use Rattle.fields.specs.Steps.Names.{spelled_none, spelled_more}
 use Rattle.letters.proofs.spell.spell.Goals as goal

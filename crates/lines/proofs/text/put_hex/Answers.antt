@@ -1,5 +1,5 @@
 -- The loop keeps: the bytes before i are written, two digits each, and the rest of the room stays. Assumes nothing.
-use Rattle.std.proofs.Common.{arith, ◌-◌}
+use Rattle.std.proofs.Common.{arith}
 use Rattle.logs.specs.Laws.Hex.{hexed_none, hexed_more}
 use Rattle.lines.proofs.text.put_hex.Goals as goal
 

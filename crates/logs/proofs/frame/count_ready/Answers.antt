@@ -1,5 +1,5 @@
 -- The loop keeps: k events are counted, and the others that are wanted are sought in what stands after those. Assumes nothing.
-use Rattle.std.proofs.Common.{arith, ◌-◌}
+use Rattle.std.proofs.Common.{arith}
 use Rattle.logs.specs.Laws.Ready.{cut_few}
 use Rattle.logs.specs.Laws.Count.{counted_more, counted_cut, counted_all}
 use Rattle.logs.proofs.frame.count_ready.Goals as goal

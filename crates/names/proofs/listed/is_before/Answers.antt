@@ -1,5 +1,5 @@
 -- The loop keeps: what is left of s is before what is left of t exactly if s is before t. Assumes nothing.
-use Rattle.std.proofs.Common.{arith, eq-eqb, le-ltb, lt-ltb, ne_eqb, sym, ◌-◌, ◌∙◌}
+use Rattle.std.proofs.Common.{arith, eq-eqb, le-ltb, lt-ltb, ne_eqb, sym, ◌∙◌}
 use Rattle.terms.specs.Steps.Listed.{before_step, before_out, before_end}
 use Rattle.names.proofs.listed.is_before.Goals as goal
 

@@ -1,6 +1,6 @@
 -- The loop keeps: the seats below are counted, and k slots of this one. A live tab points at a row that is there, and no count
 -- passes 80. Assumes nothing.
-use Rattle.std.proofs.Common.{arith, ◌-◌}
+use Rattle.std.proofs.Common.{arith}
 use Rattle.terms.specs.Base.{Range}
 use Rattle.fields.specs.Laws.Each.{range}
 use Rattle.fields.specs.Steps.Count.{row_there, counting_none, counting_fits, counting_free, counting_live, counting_done}

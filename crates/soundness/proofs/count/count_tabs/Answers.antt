@@ -1,5 +1,5 @@
 -- The loop keeps: the tabs of seats 1 to s are counted. Assumes nothing.
-use Rattle.std.proofs.Common.{arith, ◌-◌}
+use Rattle.std.proofs.Common.{arith}
 use Rattle.fields.specs.Laws.Each.{range, each_at}
 use Rattle.fields.specs.Steps.Count.{counts_none, counts_below}
 use Rattle.soundness.proofs.count.count_tabs.Goals as goal

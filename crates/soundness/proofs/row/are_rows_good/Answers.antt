@@ -1,5 +1,5 @@
 -- The loop keeps: the rows up to p are good. Assumes nothing.
-use Rattle.std.proofs.Common.{arith, ◌-◌}
+use Rattle.std.proofs.Common.{arith}
 use Rattle.fields.specs.Laws.Each.{range, passed_start, passed_on, passed_fail, passed_below}
 use Rattle.fields.specs.Steps.Count.{pointing_is}
 use Rattle.soundness.proofs.row.are_rows_good.Goals as goal

@@ -1,5 +1,5 @@
 -- The loop keeps: no row above q clashes with row p. Assumes nothing.
-use Rattle.std.proofs.Common.{arith, ◌-◌}
+use Rattle.std.proofs.Common.{arith}
 use Rattle.fields.specs.Laws.Each.{range, each_at}
 use Rattle.fields.specs.Steps.Clash.{new_fail, new_done}
 use Rattle.soundness.proofs.row.is_row_new.Goals as goal

@@ -1,5 +1,4 @@
 -- The loop keeps: the slots up to k are good. Assumes nothing.
-use Rattle.std.proofs.Common.{◌-◌}
 use Rattle.fields.specs.Laws.Each.{passed_start, passed_on, passed_fail}
 use Rattle.soundness.proofs.seat.are_tabs_good.Goals as goal
 

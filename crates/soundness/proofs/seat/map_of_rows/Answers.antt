@@ -1,5 +1,5 @@
 -- The loop keeps: the map has the bits of the slots up to k, and the weight is that of the next bit. Assumes nothing.
-use Rattle.std.proofs.Common.{ap, arith, refl, sym, ◌*◌, ◌-◌, ◌<◌, ◌∙◌, ◌≤◌}
+use Rattle.std.proofs.Common.{ap, arith, refl, sym, ◌*◌, ◌<◌, ◌∙◌, ◌≤◌}
 use Rattle.fields.specs.Base.{one}
 use Rattle.fields.specs.Table.{view, live}
 use Rattle.fields.specs.Laws.Bits.{bits_none, bits_pass}

@@ -1,5 +1,5 @@
 -- The loop keeps: n is the sum of the opens of the seats up to s, which the machine can count. Assumes nothing.
-use Rattle.std.proofs.Common.{arith, sym, ◌-◌}
+use Rattle.std.proofs.Common.{arith, sym}
 use Rattle.fields.specs.Laws.Sum.{sum_none, sum_pass}
 use Rattle.fields.specs.Laws.Can.{most_small}
 use Rattle.soundness.proofs.seat.sum_of_opens.Goals as goal

@@ -1,5 +1,5 @@
 -- The loop keeps: no slot up to i has the serial of slot k. A free slot shares none. Assumes nothing.
-use Rattle.std.proofs.Common.{ap, not, ◌-◌}
+use Rattle.std.proofs.Common.{ap, not}
 use Rattle.fields.specs.Laws.Each.{passed_start, passed_on, passed_fail}
 use Rattle.fields.specs.Steps.Tab.{new_free}
 use Rattle.soundness.proofs.tab.is_serial_new.Goals as goal

@@ -1,5 +1,5 @@
 -- The loop keeps: no row up to p is free. Assumes nothing.
-use Rattle.std.proofs.Common.{ap, not, ◌-◌}
+use Rattle.std.proofs.Common.{ap, not}
 use Rattle.fields.specs.Laws.Lowest.{sought_start, sought_pass, sought_stop, sought_done}
 use Rattle.fields.specs.Steps.Find.{free_process_is}
 use Rattle.table.proofs.find.free_process.Goals as goal

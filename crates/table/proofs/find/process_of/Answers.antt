@@ -1,5 +1,4 @@
 -- The loop keeps: no row up to p is the one sought. Assumes nothing.
-use Rattle.std.proofs.Common.{◌-◌}
 use Rattle.fields.specs.Laws.Lowest.{sought_start, sought_pass, sought_stop, sought_done}
 use Rattle.fields.specs.Steps.Find.{process_is}
 use Rattle.table.proofs.find.process_of.Goals as goal

@@ -1,5 +1,5 @@
 -- The table is wiped, and then has seats 1 to n as ordered. Assumes nothing.
-use Rattle.std.proofs.Common.{ap, arith, ◌-◌, ◌∙◌, ◌≡◌}
+use Rattle.std.proofs.Common.{ap, arith, ◌∙◌, ◌≡◌}
 use Rattle.fields.specs.Inner.{ordered}
 use Rattle.fields.specs.Steps.Update.{ordered_none, fresh_is}
 use Rattle.table.proofs.fresh.fresh.Goals as goal

@@ -1,5 +1,5 @@
 -- The loop keeps: what is left is folded exactly if all of it is. Assumes nothing.
-use Rattle.std.proofs.Common.{eq-eqb, eqb, false, get_or, ne_eqb, rules, sym, true, ◌-◌, ◌∙◌, ◌≡◌}
+use Rattle.std.proofs.Common.{eq-eqb, eqb, false, get_or, ne_eqb, rules, sym, true, ◌∙◌, ◌≡◌}
 use Rattle.terms.specs.Names.{lower}
 use Rattle.terms.specs.Steps.Fold.{folded_step, folded_end}
 use Rattle.terms.proofs.fold.is_folded.Goals as goal

@@ -1,5 +1,5 @@
 -- Lists of unlike lengths are not equal. The loop keeps: what is left is equal exactly if all is. Assumes nothing.
-use Rattle.std.proofs.Common.{arith, rules, sym, ◌-◌, ◌∙◌}
+use Rattle.std.proofs.Common.{arith, rules, sym, ◌∙◌}
 use Rattle.terms.specs.Steps.Fold.{same_unlike, same_goes, same_parts, same_end}
 use Rattle.terms.proofs.fold.is_same.Goals as goal
 

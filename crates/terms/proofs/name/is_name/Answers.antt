@@ -1,6 +1,6 @@
 -- The loop keeps: the walk over all bytes is the walk from the label so far over those that are left. A byte that turns
 -- the walk off ends it; after the last byte the label says whether the name may end. Assumes nothing.
-use Rattle.std.proofs.Common.{ap, arith, get_or, length, rules, sym, ◌-◌, ◌∙◌, ◌≡◌}
+use Rattle.std.proofs.Common.{ap, arith, get_or, length, rules, sym, ◌∙◌, ◌≡◌}
 use Rattle.terms.specs.Inner.{next, onward, walk}
 use Rattle.terms.specs.Laws.Bools.{within_in, within_low, within_high}
 use Rattle.terms.specs.Laws.Walk.{name_walk, walk_step}

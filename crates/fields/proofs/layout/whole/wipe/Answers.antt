@@ -1,5 +1,5 @@
 -- The loop keeps: the first i bytes are zero. After it all are, and the offset of the process rows is written. Assumes nothing.
-use Rattle.std.proofs.Common.{arith, length-set, refl, ◌-◌, ◌∙◌}
+use Rattle.std.proofs.Common.{arith, length-set, refl, ◌∙◌}
 use Rattle.fields.specs.Steps.Layout.{table_bytes_lem, wiped_none, wiped_more, blank_is}
 use Rattle.fields.proofs.layout.whole.wipe.Goals as goal
 
