@@ -30,7 +30,9 @@ APART = {
     "stop-process": "stops_process",
     "stop-tab": "stops_tab",
 }
-# The same, in the files of one crate alone.
+# Names that no line of their own declares: several constructors to a line, a parameter of a record, a name given by `as`.
+BESIDE = ("seatZero", "rowZero", "seatsAt", "setMark", "clearMark", "roomAfter", "bookOrders", "listedNames")
+# Names as in APART, in the files of one crate alone.
 APART_IN = {"terms": {"name_of": "name_of_lem"}}
 
 DECLARED = re.compile(r"^\s*(?:(?:abbrev|unfoldable|pub|package)\s+)*([^\s(){}:,;]+) :(\s|$)")
@@ -73,6 +75,7 @@ def table():
         if new != name:
             turned[name] = new
     turned.update(APART)
+    turned.update((name, snake(name)) for name in BESIDE)
     return names, turned
 
 

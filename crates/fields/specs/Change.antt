@@ -3,8 +3,8 @@
 -- of one field is. Assumes nothing.
 use Rattle.std.specs.Prelude.{Bool, ◌&&◌, cond, List, [], ◌∷◌, ℕ, ◌-◌, eqb, get_or}
 use Rattle.terms.specs.Base.{within}
-use Rattle.fields.specs.Rule.View.{View, Field, tenant, options, selected, seatZero, opens, slots, serial, row, waiting}
-use Rattle.fields.specs.Rule.View.{number, owner, tabs, size, rowZero, letter, seatsAt, rows_at, last}
+use Rattle.fields.specs.Rule.View.{View, Field, tenant, options, selected, seat_zero, opens, slots, serial, row, waiting}
+use Rattle.fields.specs.Rule.View.{number, owner, tabs, size, row_zero, letter, seats_at, rows_at, last}
 use Rattle.fields.specs.Rule.Update.{Write, ◌≔◌, name_of_row}
 
 -- fields are told apart by their kind, in the order of Rule.View, and by the two numbers they have at most
@@ -12,7 +12,7 @@ unfoldable pub kind : Field → ℕ
 kind (tenant s) = 0
 kind (options s) = 1
 kind (selected s) = 2
-kind (seatZero s) = 3
+kind (seat_zero s) = 3
 kind (opens s) = 4
 kind (slots s) = 5
 kind (serial s k) = 6
@@ -22,9 +22,9 @@ kind (number p) = 9
 kind (owner p) = 10
 kind (tabs p) = 11
 kind (size p) = 12
-kind (rowZero p) = 13
+kind (row_zero p) = 13
 kind (letter p j) = 14
-kind seatsAt = 15
+kind seats_at = 15
 kind rows_at = 16
 kind last = 17
 
@@ -32,7 +32,7 @@ unfoldable pub major : Field → ℕ
 major (tenant s) = s
 major (options s) = s
 major (selected s) = s
-major (seatZero s) = s
+major (seat_zero s) = s
 major (opens s) = s
 major (slots s) = s
 major (serial s k) = s
@@ -42,9 +42,9 @@ major (number p) = p
 major (owner p) = p
 major (tabs p) = p
 major (size p) = p
-major (rowZero p) = p
+major (row_zero p) = p
 major (letter p j) = p
-major seatsAt = 0
+major seats_at = 0
 major rows_at = 0
 major last = 0
 
@@ -52,7 +52,7 @@ unfoldable pub minor : Field → ℕ
 minor (tenant s) = 0
 minor (options s) = 0
 minor (selected s) = 0
-minor (seatZero s) = 0
+minor (seat_zero s) = 0
 minor (opens s) = 0
 minor (slots s) = 0
 minor (serial s k) = k
@@ -62,9 +62,9 @@ minor (number p) = 0
 minor (owner p) = 0
 minor (tabs p) = 0
 minor (size p) = 0
-minor (rowZero p) = 0
+minor (row_zero p) = 0
 minor (letter p j) = j
-minor seatsAt = 0
+minor seats_at = 0
 minor rows_at = 0
 minor last = 0
 

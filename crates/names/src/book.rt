@@ -1,6 +1,6 @@
 // The order book: its trailer, its soundness, and what it says of a seat.
 ghost use Rattle.std.specs.Prelude.{◌≡◌, true, ◌&&◌, ◌≤◌, ◌<◌, length};
-ghost use Rattle.terms.specs.Names.{orders as bookOrders, listed as listedNames, sound_book, letting_of};
+ghost use Rattle.terms.specs.Names.{orders as book_orders, listed as listed_names, sound_book, letting_of};
 ghost use Rattle.terms.specs.Inner.{trailer_size, trailer, orders_at, orders_count, book_form, names_at, names_count, legal_form};
 ghost use Rattle.terms.specs.Inner.{adjoins, sound_orders, sound_names};
 
@@ -60,7 +60,7 @@ fn is_legal_form(x: u8) -> bool
 fn parts_sound(b: &[u8]) -> bool
     requires { trailer_size ≤ length b.now }
     ensures { result ≡ (adjoins b.now (trailer b.now)
-        && sound_orders (bookOrders b.now) && sound_names (listedNames b.now)) }
+        && sound_orders (book_orders b.now) && sound_names (listed_names b.now)) }
 {
     let count = orders_count(b);
     let from = names_at(b);
@@ -99,7 +99,7 @@ pub fn is_sound(b: &[u8]) -> bool
 // What a sound book says of a seat.
 pub fn letting_of(b: &[u8], seat: u8) -> Letting
     requires { sound_book b.now ≡ true }
-    ensures { result ≡ letting_of seat (bookOrders b.now) }
+    ensures { result ≡ letting_of seat (book_orders b.now) }
 {
     orders::letting_of(b, orders_count(b), seat)
 }

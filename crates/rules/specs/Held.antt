@@ -59,16 +59,16 @@ pub record Says (number actions written : ℕ) (d : Verdict) : Type 0 where
 
 -- what a rule's function leaves, of seat s of table t: the reply's number and counts, its change, and its frames over the
 -- front of the room
-pub record Replied (t : List ℕ) (s : ℕ) (x : Reply) (lent table_after roomAfter : List ℕ) (d : Verdict) : Type 0 where
+pub record Replied (t : List ℕ) (s : ℕ) (x : Reply) (lent table_after room_after : List ℕ) (d : Verdict) : Type 0 where
   pub says : Says x.number (length x.actions) (length (frames x.actions)) d
   pub table : table_after ≡ changed t s x.change
-  pub room : roomAfter ≡ over lent 0 (frames x.actions)
+  pub room : room_after ≡ over lent 0 (frames x.actions)
 
 -- what an event's function leaves: the same of an outcome
-pub record Decided (x : Outcome) (lent table_after roomAfter : List ℕ) (d : Verdict) : Type 0 where
+pub record Decided (x : Outcome) (lent table_after room_after : List ℕ) (d : Verdict) : Type 0 where
   pub says : Says x.number (length x.actions) (length (frames x.actions)) d
   pub table : table_after ≡ x.table
-  pub room : roomAfter ≡ over lent 0 (frames x.actions)
+  pub room : room_after ≡ over lent 0 (frames x.actions)
 
 -- ---- what a rule's function may count on: a sound table and room enough
 

@@ -5,7 +5,7 @@ pub use Rattle.rules.specs.Rule.Fits.{FitsTag, key_sent, mouse_sent, open_sent, 
 pub use Rattle.rules.specs.Rule.Fits.{store_sent, retrieve_sent, result_sent, document_sent, ReadAs}
 pub use Rattle.rules.specs.Rule.Action.{bar, paint, go, render, key, mouse, error, document, cookie, set, get, fetch}
 pub use Rattle.rules.specs.Rule.Action.{start_tab, stop_tab, start_process, stop_process, open_socket}
-pub use Rattle.rules.specs.Rule.Desk.{Desk, desk, desk_at, Change, stay, open_tab, select_tab, close_tab, setMark, clearMark}
+pub use Rattle.rules.specs.Rule.Desk.{Desk, desk, desk_at, Change, stay, open_tab, select_tab, close_tab, set_mark, clear_mark}
 pub use Rattle.rules.specs.Rule.Desk.{id_at, process_at, suffix_at, new_id, changed, Reply, refuse, reply}
 pub use Rattle.rules.specs.Rule.Allow.{cookie_domain, socket_host, socket_allowed, is_url}
 pub use Rattle.rules.specs.Rule.Seat.{acceptable, open_rule, select_rule, close_rule, pass_rule, plain, key_rule, seat_rule}

@@ -2,7 +2,7 @@
 ghost use Rattle.std.specs.Prelude.{◌≡◌, ◌&&◌, [], ◌∷◌, ◌≤◌, length, eqb};
 ghost use Rattle.fields.specs.Table.{TabLive};
 ghost use Rattle.fields.specs.declared.mark.Mark.TheVariants.{Cookie};
-ghost use Rattle.rules.specs.Sheet.{framed, desk_at, clearMark, reply, result_rule, document_rule};
+ghost use Rattle.rules.specs.Sheet.{framed, desk_at, clear_mark, reply, result_rule, document_rule};
 ghost use Rattle.rules.specs.Inner.{Replied, ReadyTab, Awaited};
 
 use fields::mark::Mark;
@@ -28,7 +28,7 @@ fn is_asked(t: &[u8], s: usize, k: usize, n: usize) -> bool
 // To a tab that waits for it, which then waits no more.
 fn pass_on(t: &mut [u8], out: &mut [u8], s: usize, k: usize, tag: u8, m: Mark, x: &[u8]) -> Verdict
     requires { Awaited t.old out.old s k m x.now }
-    ensures { Replied t.old s (reply (framed 2 ((desk_at t.old s).id k) tag x.now ∷ []) (clearMark k m)) out.old t.new out.new result }
+    ensures { Replied t.old s (reply (framed 2 ((desk_at t.old s).id k) tag x.now ∷ []) (clear_mark k m)) out.old t.new out.new result }
 {
     let n = send_raw(out, 0, TAB, id(t, s, k), tag, x);
     clear_mark(t, s, k, m);

@@ -7,8 +7,8 @@ use borrow.Author.Tests.{eq-eqb, ne_eqb, eqb-true, leb-false, lt-leb, leb-true}
 use Rattle.terms.specs.Laws.Bools.{and_left, and_right, and_both, cases}
 use Rattle.terms.specs.Base.{Range}
 use Rattle.fields.specs.Base.{each, sum, bits}
-use Rattle.fields.specs.Rule.View.{View, tenant, options, selected, seatZero, opens, slots, serial, row, waiting, number}
-use Rattle.fields.specs.Rule.View.{owner, tabs, size, rowZero, letter, last}
+use Rattle.fields.specs.Rule.View.{View, tenant, options, selected, seat_zero, opens, slots, serial, row, waiting, number}
+use Rattle.fields.specs.Rule.View.{owner, tabs, size, row_zero, letter, last}
 use Rattle.fields.specs.Rule.Clause.{empty_tab, empty_seat, empty_row, filled, same_serial, hangs, same_number, seat_in_range}
 use Rattle.fields.specs.Rule.Clause.{seat_spare, row_spare, let_or_empty, live_or_empty, used_or_empty, map_agrees, selected_live}
 use Rattle.fields.specs.Rule.Clause.{serial_fits, counted, has_tab, number_fits, last_fits, good_name, name_formed}
@@ -151,13 +151,13 @@ module _ (v : View) where
   unfolding seat_in_range
   selected_test s e = and_right (leb (v (tenant s)) 99 && legal_options (v (options s))) (leb (v (selected s)) 10) e
 
-  pub seat_spare_lem : (s : ℕ) → seat_spare v s ≡ true → v (seatZero s) ≡ 0
+  pub seat_spare_lem : (s : ℕ) → seat_spare v s ≡ true → v (seat_zero s) ≡ 0
   unfolding seat_spare
-  seat_spare_lem s e = eqb-true (v (seatZero s)) 0 e
+  seat_spare_lem s e = eqb-true (v (seat_zero s)) 0 e
 
-  pub row_spare_lem : (p : ℕ) → row_spare v p ≡ true → v (rowZero p) ≡ 0
+  pub row_spare_lem : (p : ℕ) → row_spare v p ≡ true → v (row_zero p) ≡ 0
   unfolding row_spare
-  row_spare_lem p e = eqb-true (v (rowZero p)) 0 e
+  row_spare_lem p e = eqb-true (v (row_zero p)) 0 e
 
   pub not_let_at : (s : ℕ) → let_or_empty v s ≡ true → v (tenant s) ≡ 0 → EmptySeat v s
   unfolding let_or_empty

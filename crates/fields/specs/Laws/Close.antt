@@ -3,7 +3,7 @@
 use Rattle.std.specs.Prelude.{◌≡◌, ◌≢◌, ℕ, ◌-◌, ◌^◌}
 use Rattle.std.proofs.Math.Path.{refl}
 use Rattle.terms.specs.Base.{Range}
-use Rattle.fields.specs.Rule.View.{View, selected, opens, slots, serial, row, waiting, number, owner, tabs, size, rowZero}
+use Rattle.fields.specs.Rule.View.{View, selected, opens, slots, serial, row, waiting, number, owner, tabs, size, row_zero}
 use Rattle.fields.specs.Rule.View.{letter, last}
 use Rattle.fields.specs.Rule.Update.{unhanging, clearing}
 use Rattle.fields.specs.Change.{kind, major, minor, same_field, change, change_name, changes}
@@ -76,7 +76,7 @@ pub record Cleared (v u : View) (p : ℕ) : Type 0 where
   pub seats : SeatsStill v u
   pub others : (q : ℕ) → q ≢ p → KeptRow v u q
   pub tabs= : (q : ℕ) → q ≢ p → u (tabs q) ≡ v (tabs q)
-  pub row_zero= : (q : ℕ) → u (rowZero q) ≡ v (rowZero q)
+  pub row_zero= : (q : ℕ) → u (row_zero q) ≡ v (row_zero q)
   pub gone_row : GoneRow u p
   pub last= : u last ≡ v last
   pub offsets : Offsets v u

@@ -4,7 +4,7 @@ use Rattle.std.proofs.Math.Path.{refl, ap}
 use Rattle.std.proofs.Common.{◌∙◌, ⊎_elim, eq-eqb, ne_eqb}
 use Rattle.std.proofs.Math.ListN.{length}
 use Rattle.terms.specs.Base.{Range}
-use Rattle.fields.specs.Rule.View.{View, selected, opens, slots, row, tabs, rowZero, last}
+use Rattle.fields.specs.Rule.View.{View, selected, opens, slots, row, tabs, row_zero, last}
 use Rattle.fields.specs.Rule.Layout.{table_bytes, most_opens, view}
 use Rattle.fields.specs.Rule.Sound.{sound_table}
 use Rattle.fields.specs.Rule.Word.{live}
@@ -29,7 +29,7 @@ pub record Ended (v u : View) (s k p : ℕ) : Type 0 where
   pub rest : Changed v u s k
   pub others : (q : ℕ) → q ≢ p → KeptRow v u q
   pub tabs= : (q : ℕ) → q ≢ p → u (tabs q) ≡ v (tabs q)
-  pub row_zero= : (q : ℕ) → u (rowZero q) ≡ v (rowZero q)
+  pub row_zero= : (q : ℕ) → u (row_zero q) ≡ v (row_zero q)
   pub gone : EmptyTab u s k
   pub selected! : u (selected s) ≡ 0
   pub opens! : u (opens s) ≡ v (opens s)

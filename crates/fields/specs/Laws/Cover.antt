@@ -6,8 +6,8 @@ use Rattle.terms.specs.Base.{Range, Bytes}
 use Rattle.terms.specs.Names.{num}
 use Rattle.terms.specs.Laws.Bools.{cases}
 use Rattle.terms.specs.Laws.Num.{num_suc}
-use Rattle.fields.specs.Rule.View.{View, Field, there, tenant, options, selected, seatZero, opens, slots, serial, row}
-use Rattle.fields.specs.Rule.View.{waiting, number, owner, tabs, size, rowZero, letter, seatsAt, rows_at, last}
+use Rattle.fields.specs.Rule.View.{View, Field, there, tenant, options, selected, seat_zero, opens, slots, serial, row}
+use Rattle.fields.specs.Rule.View.{waiting, number, owner, tabs, size, row_zero, letter, seats_at, rows_at, last}
 use Rattle.fields.specs.Rule.Layout.{form, form_at, form_width, seat_at, tab_at, row_at, table_bytes, view, view_by}
 use Rattle.fields.specs.Laws.Each.{range, in_range, in_ranges}
 use Rattle.fields.specs.Laws.Few.{four}
@@ -31,7 +31,7 @@ module _ (n s i : ℕ) (seat : Range 1 8 s) where
   head_front =
       let h = in_range seat in
       quarter (48 * (s - 1)) i n (byte (tenant s) 0 _ h (omega arith) refl) (byte (options s) 0 _ h (omega arith) (omega arith))
-      (byte (selected s) 0 _ h (omega arith) (omega arith)) (byte (seatZero s) 0 _ h (omega arith) (omega arith))
+      (byte (selected s) 0 _ h (omega arith) (omega arith)) (byte (seat_zero s) 0 _ h (omega arith) (omega arith))
 
   head_back : i < 4 → 48 * (s - 1) + 4 + i ≡ n → In n
   unfolding there form_at form_width seat_at
@@ -62,7 +62,7 @@ module _ (n p i : ℕ) (row_in : Range 1 80 p) where
       let h = in_range row_in in
       quarter (384 + 72 * (p - 1) + 4) i n (byte (owner p) 0 _ h (omega arith) refl)
       (byte (tabs p) 0 _ h (omega arith) (omega arith))
-      (byte (size p) 0 _ h (omega arith) (omega arith)) (byte (rowZero p) 0 _ h (omega arith) (omega arith))
+      (byte (size p) 0 _ h (omega arith) (omega arith)) (byte (row_zero p) 0 _ h (omega arith) (omega arith))
 
   in_letter : (j : ℕ) → Range 1 64 j → 384 + 72 * (p - 1) + 8 + (j - 1) ≡ n → In n
   unfolding there form_at form_width row_at
@@ -73,7 +73,7 @@ unfolding there form_at form_width
 in_trailer n i h e =
     cases (ltb i 4)
     (λ a.
-    quarter 6144 i n (byte seatsAt 0 _ refl (omega arith) refl) (byte seatsAt 1 _ refl (omega arith) refl)
+    quarter 6144 i n (byte seats_at 0 _ refl (omega arith) refl) (byte seats_at 1 _ refl (omega arith) refl)
     (byte rows_at 0 _ refl (omega arith) refl) (byte rows_at 1 _ refl (omega arith) refl)
     (ltb-true i 4 a) e)
     (λ a.

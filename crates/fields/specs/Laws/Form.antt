@@ -4,8 +4,8 @@ use Rattle.std.specs.Prelude.{◌≡◌, refl, true, ◌&&◌, cond, [], ◌∷�
 use Rattle.std.proofs.Common.{ap, sym, ◌∙◌, arith, lt-ltb, le-ltb}
 use Rattle.terms.specs.Base.{within, Range}
 use Rattle.terms.specs.Laws.Bools.{and_left, and_right, within_at}
-use Rattle.fields.specs.Rule.View.{Field, there, tenant, options, selected, seatZero, opens, slots, serial, row, waiting}
-use Rattle.fields.specs.Rule.View.{number, owner, tabs, size, rowZero, letter, seatsAt, rows_at, last}
+use Rattle.fields.specs.Rule.View.{Field, there, tenant, options, selected, seat_zero, opens, slots, serial, row, waiting}
+use Rattle.fields.specs.Rule.View.{number, owner, tabs, size, row_zero, letter, seats_at, rows_at, last}
 use Rattle.fields.specs.Rule.Layout.{form, form_at, form_width, seat_at, tab_at, row_at}
 use Rattle.fields.specs.Laws.Few.{alone, pair, four}
 use Rattle.fields.specs.Laws.Layout.{FieldsFit}
@@ -13,7 +13,7 @@ use Rattle.fields.specs.Laws.Layout.{FieldsFit}
 -- ---- the document's layout: whose is the byte at a place?
 
 head_field : ℕ → ℕ → Field
-head_field s i = get_or (tenant s ∷ options s ∷ selected s ∷ seatZero s ∷ opens s ∷ opens s ∷ slots s ∷ slots s ∷ []) i last
+head_field s i = get_or (tenant s ∷ options s ∷ selected s ∷ seat_zero s ∷ opens s ∷ opens s ∷ slots s ∷ slots s ∷ []) i last
 
 tab_field : ℕ → ℕ → ℕ → Field
 tab_field s k i = get_or (serial s k ∷ serial s k ∷ row s k ∷ waiting s k ∷ []) i last
@@ -24,11 +24,11 @@ seat_field s i = cond (ltb i 8) (head_field s i) (tab_field s ((i - 8) / 4 + 1) 
 row_field : ℕ → ℕ → Field
 row_field p i =
     cond (ltb i 8)
-    (get_or (number p ∷ number p ∷ number p ∷ number p ∷ owner p ∷ tabs p ∷ size p ∷ rowZero p ∷ []) i last)
+    (get_or (number p ∷ number p ∷ number p ∷ number p ∷ owner p ∷ tabs p ∷ size p ∷ row_zero p ∷ []) i last)
     (letter p (i - 7))
 
 trailer_field : ℕ → Field
-trailer_field i = get_or (seatsAt ∷ seatsAt ∷ rows_at ∷ rows_at ∷ []) i last
+trailer_field i = get_or (seats_at ∷ seats_at ∷ rows_at ∷ rows_at ∷ []) i last
 
 field_at : ℕ → Field
 field_at n =
@@ -107,8 +107,8 @@ owner_of_byte (tenant s) h = alone (λ i. field_at (48 * (s - 1) + i) ≡ tenant
 owner_of_byte (options s) h = alone (λ i. field_at (48 * (s - 1) + 1 + i) ≡ options s) (in_head _ s 1 h (omega arith) (omega arith))
 owner_of_byte (selected s) h =
     alone (λ i. field_at (48 * (s - 1) + 2 + i) ≡ selected s) (in_head _ s 2 h (omega arith) (omega arith))
-owner_of_byte (seatZero s) h =
-    alone (λ i. field_at (48 * (s - 1) + 3 + i) ≡ seatZero s) (in_head _ s 3 h (omega arith) (omega arith))
+owner_of_byte (seat_zero s) h =
+    alone (λ i. field_at (48 * (s - 1) + 3 + i) ≡ seat_zero s) (in_head _ s 3 h (omega arith) (omega arith))
 owner_of_byte (opens s) h =
     pair (λ i. field_at (48 * (s - 1) + 4 + i) ≡ opens s)
     (in_head _ s 4 h (omega arith) (omega arith)) (in_head _ s 5 h (omega arith) (omega arith))
@@ -130,13 +130,13 @@ owner_of_byte (owner p) h =
     alone (λ i. field_at (384 + 72 * (p - 1) + 4 + i) ≡ owner p) (in_front _ p 4 h (omega arith) (omega arith))
 owner_of_byte (tabs p) h = alone (λ i. field_at (384 + 72 * (p - 1) + 5 + i) ≡ tabs p) (in_front _ p 5 h (omega arith) (omega arith))
 owner_of_byte (size p) h = alone (λ i. field_at (384 + 72 * (p - 1) + 6 + i) ≡ size p) (in_front _ p 6 h (omega arith) (omega arith))
-owner_of_byte (rowZero p) h =
-    alone (λ i. field_at (384 + 72 * (p - 1) + 7 + i) ≡ rowZero p) (in_front _ p 7 h (omega arith) (omega arith))
+owner_of_byte (row_zero p) h =
+    alone (λ i. field_at (384 + 72 * (p - 1) + 7 + i) ≡ row_zero p) (in_front _ p 7 h (omega arith) (omega arith))
 owner_of_byte (letter p j) h =
     alone (λ i. field_at (384 + 72 * (p - 1) + 8 + (j - 1) + i) ≡ letter p j)
     (in_letter _ p j (within_at 1 80 p (and_left (within 1 80 p) (within 1 64 j) h))
     (within_at 1 64 j (and_right (within 1 80 p) (within 1 64 j) h)) (omega arith))
-owner_of_byte seatsAt h = pair (λ i. field_at (6144 + i) ≡ seatsAt) (in_trailer _ 0 refl) (in_trailer _ 1 refl)
+owner_of_byte seats_at h = pair (λ i. field_at (6144 + i) ≡ seats_at) (in_trailer _ 0 refl) (in_trailer _ 1 refl)
 owner_of_byte rows_at h = pair (λ i. field_at (6146 + i) ≡ rows_at) (in_trailer _ 2 refl) (in_trailer _ 3 refl)
 owner_of_byte last h =
     four (λ i. field_at (6148 + i) ≡ last) (in_trailer _ 4 refl) (in_trailer _ 5 refl) (in_trailer _ 6 refl) (in_trailer _ 7 refl)
@@ -167,7 +167,7 @@ unfolding there form_at form_width
 form_inside (tenant s) h = let a = seat_inside s h in omega arith
 form_inside (options s) h = let a = seat_inside s h in omega arith
 form_inside (selected s) h = let a = seat_inside s h in omega arith
-form_inside (seatZero s) h = let a = seat_inside s h in omega arith
+form_inside (seat_zero s) h = let a = seat_inside s h in omega arith
 form_inside (opens s) h = let a = seat_inside s h in omega arith
 form_inside (slots s) h = let a = seat_inside s h in omega arith
 form_inside (serial s k) h = let a = tab_inside s k h in omega arith
@@ -177,9 +177,9 @@ form_inside (number p) h = let a = row_inside p h in omega arith
 form_inside (owner p) h = let a = row_inside p h in omega arith
 form_inside (tabs p) h = let a = row_inside p h in omega arith
 form_inside (size p) h = let a = row_inside p h in omega arith
-form_inside (rowZero p) h = let a = row_inside p h in omega arith
+form_inside (row_zero p) h = let a = row_inside p h in omega arith
 form_inside (letter p j) h = let a = letter_inside p j h in omega arith
-form_inside seatsAt h = omega arith
+form_inside seats_at h = omega arith
 form_inside rows_at h = omega arith
 form_inside last h = omega arith
 

@@ -11,8 +11,8 @@ use Rattle.terms.specs.Laws.Bools.{fails}
 use Rattle.terms.specs.Base.{Range}
 use Rattle.terms.specs.Laws.Order.{tenant_range, options_legal, options_unlet}
 use Rattle.fields.specs.Base.{count, one, bits}
-use Rattle.fields.specs.Rule.View.{View, Field, tenant, options, selected, seatZero, opens, slots, serial, row, waiting}
-use Rattle.fields.specs.Rule.View.{number, owner, tabs, size, rowZero, letter, seatsAt, rows_at, last}
+use Rattle.fields.specs.Rule.View.{View, Field, tenant, options, selected, seat_zero, opens, slots, serial, row, waiting}
+use Rattle.fields.specs.Rule.View.{number, owner, tabs, size, row_zero, letter, seats_at, rows_at, last}
 use Rattle.fields.specs.Rule.Layout.{form, table_bytes, most_opens, view, offsets_given}
 use Rattle.fields.specs.Rule.Sound.{sound_table}
 use Rattle.fields.specs.Rule.Clause.{same_pair}
@@ -46,7 +46,7 @@ module _ (b : List ℕ) (book : sound_book b ≡ true) where
 
   pub record Fresh : Type 0 where
     pub selected0 : (s : ℕ) → u (selected s) ≡ 0
-    pub seat_zero0 : (s : ℕ) → u (seatZero s) ≡ 0
+    pub seat_zero0 : (s : ℕ) → u (seat_zero s) ≡ 0
     pub opens0 : (s : ℕ) → u (opens s) ≡ 0
     pub slots0 : (s : ℕ) → u (slots s) ≡ 0
     pub tab0 : (s k : ℕ) → EmptyTab u s k
@@ -54,10 +54,10 @@ module _ (b : List ℕ) (book : sound_book b ≡ true) where
     pub owner0 : (p : ℕ) → u (owner p) ≡ 0
     pub tabs0 : (p : ℕ) → u (tabs p) ≡ 0
     pub size0 : (p : ℕ) → u (size p) ≡ 0
-    pub row_zero0 : (p : ℕ) → u (rowZero p) ≡ 0
+    pub row_zero0 : (p : ℕ) → u (row_zero p) ≡ 0
     pub letter0 : (p j : ℕ) → u (letter p j) ≡ 0
     pub last0 : u last ≡ 0
-    pub seats_at0 : u seatsAt ≡ 0
+    pub seats_at0 : u seats_at ≡ 0
     pub rows_at! : u rows_at ≡ form.rows_begin
 
   pub fresh_fields : Fresh
@@ -65,7 +65,7 @@ module _ (b : List ℕ) (book : sound_book b ≡ true) where
   fresh_fields =
       record {
         selected0 = λ s. fresh_zero (selected s) refl refl refl;
-        seat_zero0 = λ s. fresh_zero (seatZero s) refl refl refl;
+        seat_zero0 = λ s. fresh_zero (seat_zero s) refl refl refl;
         opens0 = λ s. fresh_zero (opens s) refl refl refl;
         slots0 = λ s. fresh_zero (slots s) refl refl refl;
         tab0 = λ s k.
@@ -78,17 +78,17 @@ module _ (b : List ℕ) (book : sound_book b ≡ true) where
         owner0 = λ p. fresh_zero (owner p) refl refl refl;
         tabs0 = λ p. fresh_zero (tabs p) refl refl refl;
         size0 = λ p. fresh_zero (size p) refl refl refl;
-        row_zero0 = λ p. fresh_zero (rowZero p) refl refl refl;
+        row_zero0 = λ p. fresh_zero (row_zero p) refl refl refl;
         letter0 = λ p j. fresh_zero (letter p j) refl refl refl;
         last0 = fresh_zero last refl refl refl;
-        seats_at0 = fresh_zero seatsAt refl refl refl;
+        seats_at0 = fresh_zero seats_at refl refl refl;
         rows_at! = ordered_rest b book 8 (omega arith) rows_at refl refl ∙ blank_rows;
       }
 
   fresh_offsets : offsets_given form u ≡ true
   unfolding offsets_given
   fresh_offsets =
-      let z = fresh_fields in rw (eq-eqb (u seatsAt) 0 z.seats_at0, eq-eqb (u rows_at) form.rows_begin z.rows_at!)
+      let z = fresh_fields in rw (eq-eqb (u seats_at) 0 z.seats_at0, eq-eqb (u rows_at) form.rows_begin z.rows_at!)
 
   free : (s k : ℕ) → live u s k ≡ false
   free s k = zero_free u s k (fresh_fields.tab0 s k).serial0

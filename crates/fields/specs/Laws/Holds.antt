@@ -5,7 +5,7 @@ use borrow.Author.Tests.{eq-eqb, eqb-true, le-leb, eqb-false}
 use Rattle.terms.specs.Laws.Bools.{and_both}
 use Rattle.terms.specs.Base.{Range}
 use Rattle.fields.specs.Base.{no_two, sum, bits}
-use Rattle.fields.specs.Rule.View.{View, tenant, selected, seatZero, opens, slots, serial, waiting, number, tabs, rowZero}
+use Rattle.fields.specs.Rule.View.{View, tenant, selected, seat_zero, opens, slots, serial, waiting, number, tabs, row_zero}
 use Rattle.fields.specs.Rule.View.{last}
 use Rattle.fields.specs.Rule.Clause.{seat_in_range, opens_in_range, tab_in_range, seat_spare, row_spare, empty_tab, empty_seat}
 use Rattle.fields.specs.Rule.Clause.{let_or_empty, live_or_empty, empty_row, used_or_empty, filled, map_agrees, selected_live}
@@ -35,11 +35,11 @@ module _ (most : ℕ) (v : View) (w : Sound most v) where
 
   pub seat_is_spare : (s : ℕ) → Range 1 8 s → seat_spare v s ≡ true
   unfolding seat_spare
-  seat_is_spare s r = eq-eqb (v (seatZero s)) 0 (w.seats_spare s r)
+  seat_is_spare s r = eq-eqb (v (seat_zero s)) 0 (w.seats_spare s r)
 
   pub row_is_spare : (p : ℕ) → Range 1 80 p → row_spare v p ≡ true
   unfolding row_spare
-  row_is_spare p r = eq-eqb (v (rowZero p)) 0 (w.rows_spare p r)
+  row_is_spare p r = eq-eqb (v (row_zero p)) 0 (w.rows_spare p r)
 
   pub seat_let_or_empty : (s : ℕ) → Range 1 8 s → let_or_empty v s ≡ true
   unfolding let_or_empty

@@ -4,7 +4,7 @@ use Rattle.std.specs.Prelude.{◌≡◌, ◌≢◌, List, ℕ, ◌+◌, ◌-◌,
 use Rattle.std.proofs.Math.Path.{refl}
 use Rattle.terms.specs.Base.{Range}
 use Rattle.terms.specs.Names.{folded}
-use Rattle.fields.specs.Rule.View.{View, number, owner, tabs, size, rowZero, letter, last}
+use Rattle.fields.specs.Rule.View.{View, number, owner, tabs, size, row_zero, letter, last}
 use Rattle.fields.specs.Rule.Update.{making}
 use Rattle.fields.specs.Change.{kind, major, minor, same_field, change, change_name, changes}
 use Rattle.fields.specs.Laws.Rows.{KeptRow}
@@ -16,7 +16,7 @@ pub record Made (v u : View) (p o : ℕ) (suffix : List ℕ) : Type 0 where
   pub seats : SeatsStill v u
   pub others : (q : ℕ) → q ≢ p → KeptRow v u q
   pub tabs= : (q : ℕ) → u (tabs q) ≡ v (tabs q)
-  pub row_zero= : (q : ℕ) → u (rowZero q) ≡ v (rowZero q)
+  pub row_zero= : (q : ℕ) → u (row_zero q) ≡ v (row_zero q)
   pub number! : u (number p) ≡ v last + 1
   pub owner! : u (owner p) ≡ o
   pub size! : u (size p) ≡ length suffix

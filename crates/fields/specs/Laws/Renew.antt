@@ -12,7 +12,7 @@ use Rattle.terms.specs.Laws.Name.{name_folded, dot_folded}
 use Rattle.terms.specs.Laws.Under.{same_of}
 use Rattle.fields.specs.Base.{one, series}
 use Rattle.fields.specs.Rule.View.{View, tenant, selected, opens, slots, serial, row, waiting, number, owner, tabs}
-use Rattle.fields.specs.Rule.View.{size, rowZero, letter, last}
+use Rattle.fields.specs.Rule.View.{size, row_zero, letter, last}
 use Rattle.fields.specs.Rule.Clause.{good_name, same_pair}
 use Rattle.fields.specs.Rule.Word.{live, used, owner_at, name_of, points}
 use Rattle.fields.specs.Rule.Update.{hanging, making}
@@ -32,7 +32,7 @@ pub record Renewed (v u : View) (s k p o : ℕ) (suffix : List ℕ) : Type 0 whe
   pub rest : Changed v u s k
   pub others : (q : ℕ) → q ≢ p → KeptRow v u q
   pub tabs= : (q : ℕ) → q ≢ p → u (tabs q) ≡ v (tabs q)
-  pub row_zero= : (q : ℕ) → u (rowZero q) ≡ v (rowZero q)
+  pub row_zero= : (q : ℕ) → u (row_zero q) ≡ v (row_zero q)
   pub serial! : u (serial s k) ≡ v (opens s) + 1
   pub row! : u (row s k) ≡ p
   pub waiting! : u (waiting s k) ≡ 0

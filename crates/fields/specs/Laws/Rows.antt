@@ -11,7 +11,7 @@ use Rattle.terms.specs.Laws.Bools.{and_left, and_right, fails}
 use Rattle.terms.specs.Base.{Range}
 use Rattle.terms.specs.Laws.Under.{same_eq, same_of}
 use Rattle.fields.specs.Base.{series}
-use Rattle.fields.specs.Rule.View.{View, number, owner, size, rowZero, letter, last}
+use Rattle.fields.specs.Rule.View.{View, number, owner, size, row_zero, letter, last}
 use Rattle.fields.specs.Rule.Clause.{good_name, same_pair}
 use Rattle.fields.specs.Rule.Word.{used, name_of}
 use Rattle.fields.specs.Laws.Each.{at_or, range, same_or, less}
@@ -22,7 +22,7 @@ pub record Bare (v : View) (p : ℕ) : Type 0 where
   pub size0 : v (size p) ≡ 0
 
 pub record Rows (v : View) : Type 0 where
-  pub rows_spare : (p : ℕ) → Range 1 80 p → v (rowZero p) ≡ 0
+  pub rows_spare : (p : ℕ) → Range 1 80 p → v (row_zero p) ≡ 0
   pub bare : (p : ℕ) → Range 1 80 p → used v p ≡ false → Bare v p
   pub fill : (p j : ℕ) → Range 1 80 p → Range 1 64 j → v (size p) < j → v (letter p j) ≡ 0
   pub numbers_apart : (q p : ℕ) → 1 ≤ q → q < p → p ≤ 80 → used v p ≡ true → v (number q) ≢ v (number p)
@@ -39,7 +39,7 @@ pub record KeptRow (v u : View) (q : ℕ) : Type 0 where
 
 -- u is v but for row p, tab counts, and a last number that does not fall
 pub record RowChanged (v u : View) (p : ℕ) : Type 0 where
-  pub row_zero= : (q : ℕ) → u (rowZero q) ≡ v (rowZero q)
+  pub row_zero= : (q : ℕ) → u (row_zero q) ≡ v (row_zero q)
   pub others : (q : ℕ) → q ≢ p → KeptRow v u q
   pub grown : v last ≤ u last
 

@@ -6,7 +6,7 @@ use Rattle.std.proofs.Math.Bool.{not}
 use Rattle.terms.specs.Names.{legal_options}
 use Rattle.terms.specs.Base.{Range}
 use Rattle.fields.specs.Base.{bits}
-use Rattle.fields.specs.Rule.View.{View, tenant, options, selected, seatZero, opens, slots, serial, row, waiting}
+use Rattle.fields.specs.Rule.View.{View, tenant, options, selected, seat_zero, opens, slots, serial, row, waiting}
 use Rattle.fields.specs.Rule.Word.{live}
 use Rattle.fields.specs.Laws.Each.{at_or, range, same_or}
 use Rattle.fields.specs.Laws.Bits.{bits_ext}
@@ -18,7 +18,7 @@ pub record Seats (most : ℕ) (v : View) : Type 0 where
   pub selections : (s : ℕ) → Range 1 8 s → v (selected s) ≤ 10
   pub opens_fit : (s : ℕ) → Range 1 8 s → v (opens s) ≤ most
   pub waits : (s k : ℕ) → Range 1 8 s → Range 1 10 k → v (waiting s k) ≤ 3
-  pub seats_spare : (s : ℕ) → Range 1 8 s → v (seatZero s) ≡ 0
+  pub seats_spare : (s : ℕ) → Range 1 8 s → v (seat_zero s) ≡ 0
   pub not_let : (s : ℕ) → Range 1 8 s → v (tenant s) ≡ 0 → EmptySeat v s
   pub free_tabs : (s k : ℕ) → Range 1 8 s → Range 1 10 k → live v s k ≡ false → EmptyTab v s k
   pub map_agrees : (s : ℕ) → Range 1 8 s → v (slots s) ≡ bits 10 (λ k. live v s k)
@@ -34,7 +34,7 @@ Elsewhere s k r j = (r ≢ s) ⊎ (j ≢ k)
 pub record Changed (v u : View) (s k : ℕ) : Type 0 where
   pub tenant= : (r : ℕ) → u (tenant r) ≡ v (tenant r)
   pub options= : (r : ℕ) → u (options r) ≡ v (options r)
-  pub seat_zero= : (r : ℕ) → u (seatZero r) ≡ v (seatZero r)
+  pub seat_zero= : (r : ℕ) → u (seat_zero r) ≡ v (seat_zero r)
   pub selected= : (r : ℕ) → r ≢ s → u (selected r) ≡ v (selected r)
   pub opens= : (r : ℕ) → r ≢ s → u (opens r) ≡ v (opens r)
   pub slots= : (r : ℕ) → r ≢ s → u (slots r) ≡ v (slots r)

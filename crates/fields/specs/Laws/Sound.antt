@@ -6,8 +6,8 @@ use Rattle.std.proofs.lemmas.Bool.{false≢true, not-false}
 use Rattle.terms.specs.Names.{legal_options, owner_of}
 use Rattle.terms.specs.Base.{Range}
 use Rattle.fields.specs.Base.{sum, bits}
-use Rattle.fields.specs.Rule.View.{View, tenant, options, selected, seatZero, opens, slots, serial, row, waiting, number}
-use Rattle.fields.specs.Rule.View.{owner, tabs, size, rowZero, letter, last}
+use Rattle.fields.specs.Rule.View.{View, tenant, options, selected, seat_zero, opens, slots, serial, row, waiting, number}
+use Rattle.fields.specs.Rule.View.{owner, tabs, size, row_zero, letter, last}
 use Rattle.fields.specs.Rule.Word.{live, used, owner_at, pointing}
 use Rattle.fields.specs.Rule.Clause.{good_name, same_pair}
 
@@ -95,8 +95,8 @@ pub record Sound (most : ℕ) (v : View) : Type 0 where
   pub selections : (s : ℕ) → Range 1 8 s → v (selected s) ≤ 10
   pub opens_fit : (s : ℕ) → Range 1 8 s → v (opens s) ≤ most
   pub waits : (s k : ℕ) → Range 1 8 s → Range 1 10 k → v (waiting s k) ≤ 3
-  pub seats_spare : (s : ℕ) → Range 1 8 s → v (seatZero s) ≡ 0
-  pub rows_spare : (p : ℕ) → Range 1 80 p → v (rowZero p) ≡ 0
+  pub seats_spare : (s : ℕ) → Range 1 8 s → v (seat_zero s) ≡ 0
+  pub rows_spare : (p : ℕ) → Range 1 80 p → v (row_zero p) ≡ 0
   pub not_let : (s : ℕ) → Range 1 8 s → v (tenant s) ≡ 0 → EmptySeat v s
   pub free_tabs : (s k : ℕ) → Range 1 8 s → Range 1 10 k → live v s k ≡ false → EmptyTab v s k
   pub free_rows : (p : ℕ) → Range 1 80 p → used v p ≡ false → EmptyRow v p

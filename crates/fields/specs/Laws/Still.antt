@@ -6,8 +6,8 @@ use Rattle.std.proofs.Math.Bool.{and-false}
 use Rattle.std.proofs.lemmas.Bool.{false≢true}
 use Rattle.terms.specs.Base.{within, Range}
 use Rattle.terms.specs.Laws.Bools.{and_left, and_right, fails}
-use Rattle.fields.specs.Rule.View.{View, Field, tenant, options, selected, seatZero, opens, slots, serial, row, waiting}
-use Rattle.fields.specs.Rule.View.{number, owner, size, rowZero, letter, seatsAt, rows_at, last}
+use Rattle.fields.specs.Rule.View.{View, Field, tenant, options, selected, seat_zero, opens, slots, serial, row, waiting}
+use Rattle.fields.specs.Rule.View.{number, owner, size, row_zero, letter, seats_at, rows_at, last}
 use Rattle.fields.specs.Rule.Update.{Write, ◌≔◌, name_of_row}
 use Rattle.fields.specs.Change.{kind, same_field, change, change_name, changes}
 use Rattle.fields.specs.Laws.Each.{in_range}
@@ -39,7 +39,7 @@ take_name p j x y r = rw (eq-eqb p p refl, in_range r)
 
 -- the trailer's offsets
 pub record Offsets (v u : View) : Type 0 where
-  pub seats_at= : u seatsAt ≡ v seatsAt
+  pub seats_at= : u seats_at ≡ v seats_at
   pub rows_at= : u rows_at ≡ v rows_at
 
 pub offsets_then : {v u w : View} → Offsets v u → Offsets u w → Offsets v w
@@ -48,7 +48,7 @@ offsets_then a b = record { seats_at= = b.seats_at= ∙ a.seats_at=; rows_at= = 
 pub record SeatsStill (v u : View) : Type 0 where
   pub tenant= : (r : ℕ) → u (tenant r) ≡ v (tenant r)
   pub options= : (r : ℕ) → u (options r) ≡ v (options r)
-  pub seat_zero= : (r : ℕ) → u (seatZero r) ≡ v (seatZero r)
+  pub seat_zero= : (r : ℕ) → u (seat_zero r) ≡ v (seat_zero r)
   pub selected= : (r : ℕ) → u (selected r) ≡ v (selected r)
   pub opens= : (r : ℕ) → u (opens r) ≡ v (opens r)
   pub slots= : (r : ℕ) → u (slots r) ≡ v (slots r)
@@ -59,7 +59,7 @@ pub record SeatsStill (v u : View) : Type 0 where
 -- process rows and the trailer's last number, tab counts apart
 pub record RowsStill (v u : View) : Type 0 where
   pub same : (q : ℕ) → KeptRow v u q
-  pub row_zero= : (q : ℕ) → u (rowZero q) ≡ v (rowZero q)
+  pub row_zero= : (q : ℕ) → u (row_zero q) ≡ v (row_zero q)
   pub last= : u last ≡ v last
   pub offsets : Offsets v u
 
@@ -92,7 +92,7 @@ seats_left v ws h =
     record {
       tenant= = λ r. left (tenant r) refl;
       options= = λ r. left (options r) refl;
-      seat_zero= = λ r. left (seatZero r) refl;
+      seat_zero= = λ r. left (seat_zero r) refl;
       selected= = λ r. left (selected r) refl;
       opens= = λ r. left (opens r) refl;
       slots= = λ r. left (slots r) refl;
@@ -118,9 +118,9 @@ rows_left v ws h =
             size= = left (size q) refl;
             letter= = λ j. left (letter q j) refl;
           };
-      row_zero= = λ q. left (rowZero q) refl;
+      row_zero= = λ q. left (row_zero q) refl;
       last= = left last refl;
-      offsets = record { seats_at= = left seatsAt refl; rows_at= = left rows_at refl };
+      offsets = record { seats_at= = left seats_at refl; rows_at= = left rows_at refl };
     }
 
 -- ---- before or after a change of a tab row

@@ -2,16 +2,16 @@
 use Rattle.std.specs.Prelude.{◌≡◌, refl, true, ◌&&◌, [], ◌∷◌, ℕ, eqb, get_or}
 use Rattle.std.proofs.Common.{sym, ◌∙◌, eq-eqb, eqb-true}
 use Rattle.terms.specs.Laws.Bools.{and_left, and_right, fails}
-use Rattle.fields.specs.Rule.View.{View, Field, tenant, options, selected, seatZero, opens, slots, serial, row, waiting}
-use Rattle.fields.specs.Rule.View.{number, owner, tabs, size, rowZero, letter, seatsAt, rows_at, last}
+use Rattle.fields.specs.Rule.View.{View, Field, tenant, options, selected, seat_zero, opens, slots, serial, row, waiting}
+use Rattle.fields.specs.Rule.View.{number, owner, tabs, size, row_zero, letter, seats_at, rows_at, last}
 use Rattle.fields.specs.Change.{kind, major, minor, same_field, change}
 
 -- the field of a kind
 of_kind : ℕ → ℕ → ℕ → Field
 of_kind i j n =
     get_or
-    (tenant i ∷ options i ∷ selected i ∷ seatZero i ∷ opens i ∷ slots i ∷ serial i j ∷ row i j ∷ waiting i j
-    ∷ number i ∷ owner i ∷ tabs i ∷ size i ∷ rowZero i ∷ letter i j ∷ seatsAt ∷ rows_at ∷ last ∷ [])
+    (tenant i ∷ options i ∷ selected i ∷ seat_zero i ∷ opens i ∷ slots i ∷ serial i j ∷ row i j ∷ waiting i j
+    ∷ number i ∷ owner i ∷ tabs i ∷ size i ∷ row_zero i ∷ letter i j ∷ seats_at ∷ rows_at ∷ last ∷ [])
     n last
 
 by_kind : (f : Field) → of_kind (major f) (minor f) (kind f) ≡ f
@@ -19,7 +19,7 @@ unfolding of_kind major minor kind
 by_kind (tenant s) = refl
 by_kind (options s) = refl
 by_kind (selected s) = refl
-by_kind (seatZero s) = refl
+by_kind (seat_zero s) = refl
 by_kind (opens s) = refl
 by_kind (slots s) = refl
 by_kind (serial s k) = refl
@@ -29,9 +29,9 @@ by_kind (number p) = refl
 by_kind (owner p) = refl
 by_kind (tabs p) = refl
 by_kind (size p) = refl
-by_kind (rowZero p) = refl
+by_kind (row_zero p) = refl
 by_kind (letter p j) = refl
-by_kind seatsAt = refl
+by_kind seats_at = refl
 by_kind rows_at = refl
 by_kind last = refl
 

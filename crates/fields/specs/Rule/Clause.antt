@@ -4,8 +4,8 @@ use Rattle.std.specs.Prelude.{ℕ, Bool, not, ◌&&◌, ◌||◌, leb, eqb}
 use Rattle.terms.specs.Base.{within}
 use Rattle.terms.specs.Names.{is_name, is_folded, has_dot, same, legal_options}
 use Rattle.fields.specs.Base.{each, sum, bits}
-use Rattle.fields.specs.Rule.View.{View, tenant, options, selected, seatZero, opens, slots, serial, row, waiting, number}
-use Rattle.fields.specs.Rule.View.{owner, tabs, size, rowZero, letter, last}
+use Rattle.fields.specs.Rule.View.{View, tenant, options, selected, seat_zero, opens, slots, serial, row, waiting, number}
+use Rattle.fields.specs.Rule.View.{owner, tabs, size, row_zero, letter, last}
 use Rattle.fields.specs.Rule.Word.{live, used, owner_at, name_of, pointing}
 
 -- ---- "every field in range (tenant 0 to 99, separate 0 or 1, selected 0 to 10, waiting 0 to 3 ..)"
@@ -23,10 +23,10 @@ tab_in_range v s k = leb (v (waiting s k)) 3
 -- ---- "zero bytes, seats not let, free rows and the fill after a name zero"
 
 unfoldable pub seat_spare : View → ℕ → Bool
-seat_spare v s = eqb (v (seatZero s)) 0
+seat_spare v s = eqb (v (seat_zero s)) 0
 
 unfoldable pub row_spare : View → ℕ → Bool
-row_spare v p = eqb (v (rowZero p)) 0
+row_spare v p = eqb (v (row_zero p)) 0
 
 unfoldable pub empty_tab : View → ℕ → ℕ → Bool
 empty_tab v s k = eqb (v (serial s k)) 0 && eqb (v (row s k)) 0 && eqb (v (waiting s k)) 0

@@ -2,8 +2,8 @@
 -- file but its laws and `src/layout.rt`: whatever else is said of a table is said of its view. Assumes nothing.
 use Rattle.std.specs.Prelude.{ℕ, ◌+◌, ◌-◌, ◌*◌, ◌/◌, ◌%◌, ◌<◌, Bool, ◌&&◌, cond, true, List, eqb, ◌≡◌}
 use Rattle.terms.specs.Names.{num, put}
-use Rattle.fields.specs.Rule.View.{View, Field, there, tenant, options, selected, seatZero, opens, slots, serial, row}
-use Rattle.fields.specs.Rule.View.{waiting, number, owner, tabs, size, rowZero, letter, seatsAt, rows_at, last}
+use Rattle.fields.specs.Rule.View.{View, Field, there, tenant, options, selected, seat_zero, opens, slots, serial, row}
+use Rattle.fields.specs.Rule.View.{waiting, number, owner, tabs, size, row_zero, letter, seats_at, rows_at, last}
 
 -- ---- any layout
 
@@ -28,7 +28,7 @@ write_by l t f x = put t (l.at f) (l.width f) x
 
 -- "both offsets as given"
 unfoldable pub offsets_given : Layout → View → Bool
-offsets_given l v = eqb (v seatsAt) 0 && eqb (v rows_at) l.rows_begin
+offsets_given l v = eqb (v seats_at) 0 && eqb (v rows_at) l.rows_begin
 
 -- ---- the document's
 
@@ -48,7 +48,7 @@ unfoldable pub form_at : Field → ℕ
 form_at (tenant s) = seat_at s
 form_at (options s) = seat_at s + 1
 form_at (selected s) = seat_at s + 2
-form_at (seatZero s) = seat_at s + 3
+form_at (seat_zero s) = seat_at s + 3
 form_at (opens s) = seat_at s + 4
 form_at (slots s) = seat_at s + 6
 form_at (serial s k) = tab_at s k
@@ -58,9 +58,9 @@ form_at (number p) = row_at p
 form_at (owner p) = row_at p + 4
 form_at (tabs p) = row_at p + 5
 form_at (size p) = row_at p + 6
-form_at (rowZero p) = row_at p + 7
+form_at (row_zero p) = row_at p + 7
 form_at (letter p j) = row_at p + 8 + (j - 1)
-form_at seatsAt = 6144
+form_at seats_at = 6144
 form_at rows_at = 6146
 form_at last = 6148
 
@@ -68,7 +68,7 @@ unfoldable pub form_width : Field → ℕ
 form_width (tenant s) = 1
 form_width (options s) = 1
 form_width (selected s) = 1
-form_width (seatZero s) = 1
+form_width (seat_zero s) = 1
 form_width (opens s) = 2
 form_width (slots s) = 2
 form_width (serial s k) = 2
@@ -78,9 +78,9 @@ form_width (number p) = 4
 form_width (owner p) = 1
 form_width (tabs p) = 1
 form_width (size p) = 1
-form_width (rowZero p) = 1
+form_width (row_zero p) = 1
 form_width (letter p j) = 1
-form_width seatsAt = 2
+form_width seats_at = 2
 form_width rows_at = 2
 form_width last = 4
 

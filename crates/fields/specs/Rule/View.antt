@@ -5,15 +5,15 @@ use Rattle.terms.specs.Base.{within}
 
 pub data Field : Type 0 where
   -- a seat's: the letting, the selected slot, its zero byte, opens, the map of occupied slots
-  tenant options selected seatZero opens slots : (s : ℕ) → Field
+  tenant options selected seat_zero opens slots : (s : ℕ) → Field
   -- a tab row's, by seat and slot: serial (0 = free), process row, waiting
   serial row waiting : (s k : ℕ) → Field
   -- a process row's: number (0 = free), owner, tabs, name length, its zero byte
-  number owner tabs size rowZero : (p : ℕ) → Field
+  number owner tabs size row_zero : (p : ℕ) → Field
   -- a byte of the room for its name
   letter : (p j : ℕ) → Field
   -- the trailer's: offset of seats, offset of processes, last process number
-  seatsAt rows_at last : Field
+  seats_at rows_at last : Field
 
 -- the numbers of all fields
 abbrev pub View : Type 0
@@ -24,7 +24,7 @@ unfoldable pub there : Field → Bool
 there (tenant s) = within 1 8 s
 there (options s) = within 1 8 s
 there (selected s) = within 1 8 s
-there (seatZero s) = within 1 8 s
+there (seat_zero s) = within 1 8 s
 there (opens s) = within 1 8 s
 there (slots s) = within 1 8 s
 there (serial s k) = within 1 8 s && within 1 10 k
@@ -34,8 +34,8 @@ there (number p) = within 1 80 p
 there (owner p) = within 1 80 p
 there (tabs p) = within 1 80 p
 there (size p) = within 1 80 p
-there (rowZero p) = within 1 80 p
+there (row_zero p) = within 1 80 p
 there (letter p j) = within 1 80 p && within 1 64 j
-there seatsAt = true
+there seats_at = true
 there rows_at = true
 there last = true

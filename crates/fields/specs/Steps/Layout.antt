@@ -5,8 +5,8 @@ use Rattle.std.proofs.Math.Path.{refl, sym}
 use Rattle.std.proofs.Common.{ap, ◌∙◌, add-one, arith, take_all, take-suc-set}
 use Rattle.terms.specs.Base.{Range}
 use Rattle.fields.specs.Base.{series}
-use Rattle.fields.specs.Rule.View.{View, Field, there, tenant, options, selected, seatZero, opens, slots, serial, row}
-use Rattle.fields.specs.Rule.View.{waiting, number, owner, tabs, size, rowZero, letter, seatsAt, rows_at, last}
+use Rattle.fields.specs.Rule.View.{View, Field, there, tenant, options, selected, seat_zero, opens, slots, serial, row}
+use Rattle.fields.specs.Rule.View.{waiting, number, owner, tabs, size, row_zero, letter, seats_at, rows_at, last}
 use Rattle.fields.specs.Rule.Layout.{view_by, write_by, offsets_given, seat_at, tab_at, row_at, form_at, form_width, form}
 use Rattle.fields.specs.Rule.Layout.{table_bytes, most_opens, most_number, view, write, tab_id, seat_of_id, serial_of_id}
 use Rattle.fields.specs.Rule.Fresh.{blank}
@@ -29,7 +29,7 @@ pub most_opens_lem : most_opens ≡ 65535
 unfolding most_opens form
 most_opens_lem = refl
 
-pub offsets_is : (v : View) → offsets_given form v ≡ eqb (v seatsAt) 0 && eqb (v rows_at) 384
+pub offsets_is : (v : View) → offsets_given form v ≡ eqb (v seats_at) 0 && eqb (v rows_at) 384
 unfolding offsets_given form
 offsets_is v = refl
 
@@ -91,7 +91,7 @@ module _ {s at : ℕ} (seat : Range 1 8 s) (e : at ≡ seat_at s) where
   unfolding there form_at form_width
   selected_lies = record { is = in_range seat; place = rw e; wide = refl }
 
-  pub seat_zero_lies : Lies (seatZero s) (at + 3) 1
+  pub seat_zero_lies : Lies (seat_zero s) (at + 3) 1
   unfolding there form_at form_width
   seat_zero_lies = record { is = in_range seat; place = rw e; wide = refl }
 
@@ -137,7 +137,7 @@ module _ {p at : ℕ} (in_row : Range 1 80 p) (e : at ≡ row_at p) where
   unfolding there form_at form_width
   size_lies = record { is = in_range in_row; place = rw e; wide = refl }
 
-  pub row_zero_lies : Lies (rowZero p) (at + 7) 1
+  pub row_zero_lies : Lies (row_zero p) (at + 7) 1
   unfolding there form_at form_width
   row_zero_lies = record { is = in_range in_row; place = rw e; wide = refl }
 
@@ -148,7 +148,7 @@ module _ {p at : ℕ} (in_row : Range 1 80 p) (e : at ≡ row_at p) where
 
 -- ---- the trailer's
 
-pub seats_at_lies : Lies seatsAt 6144 2
+pub seats_at_lies : Lies seats_at 6144 2
 unfolding there form_at form_width
 seats_at_lies = record { is = refl; place = refl; wide = refl }
 

@@ -9,7 +9,7 @@ use borrow.Author.Tests.{eq-eqb, ne_eqb, le-leb, lt-leb, leb-true, leb-false}
 use Rattle.terms.specs.Names.{lower, is_name, is_folded}
 use Rattle.terms.specs.Laws.Bools.{cases, within_in, within_low, within_high}
 use Rattle.fields.specs.Base.{each}
-use Rattle.fields.specs.Rule.View.{View, number, owner, tabs, size, rowZero, letter, last}
+use Rattle.fields.specs.Rule.View.{View, number, owner, tabs, size, row_zero, letter, last}
 use Rattle.fields.specs.Rule.Clause.{row_spare, empty_row, filled, number_fits, good_name, name_formed, row_formed}
 use Rattle.fields.specs.Rule.Word.{used, name_of}
 use Rattle.fields.specs.Good.{tabs_true, bare_row, clash, row_good}
@@ -128,17 +128,17 @@ module _ (v : View) (p : ℕ) where
 
   -- ---- good
 
-  pub row_spared : {z : ℕ} → z ≡ v (rowZero p) → z ≢ 0 → false ≡ row_good v p
+  pub row_spared : {z : ℕ} → z ≡ v (row_zero p) → z ≢ 0 → false ≡ row_good v p
   unfolding row_good row_spare
-  row_spared e h = rw (ne_eqb (v (rowZero p)) 0 (λ z. h (e ∙ z)))
+  row_spared e h = rw (ne_eqb (v (row_zero p)) 0 (λ z. h (e ∙ z)))
 
-  pub row_free : {z : ℕ} {r : Bool} → z ≡ v (rowZero p) → z ≡ 0 → used v p ≡ false
+  pub row_free : {z : ℕ} {r : Bool} → z ≡ v (row_zero p) → z ≡ 0 → used v p ≡ false
       → r ≡ bare_row v p → r ≡ row_good v p
   unfolding row_good row_spare row_formed number_fits name_formed tabs_true
   row_free e z u f =
       f
       ∙ rw (
-        eq-eqb (v (rowZero p)) 0 (sym e ∙ z),
+        eq-eqb (v (row_zero p)) 0 (sym e ∙ z),
         u,
         le-leb (v (number p)) (v last) (let n = unused_zero v p u in omega arith),
         new_free v p u,
@@ -164,8 +164,8 @@ module _ (v : View) (p : ℕ) where
   unfolding row_good
   row_untrue e h = rw (sym e ∙ h, and-false (row_spare v p && row_formed v p && filled v p))
 
-  pub row_new : {z : ℕ} {a b d r : Bool} → z ≡ v (rowZero p) → z ≡ 0 → a ≡ row_formed v p → a ≡ true → b ≡ filled v p → b ≡ true
+  pub row_new : {z : ℕ} {a b d r : Bool} → z ≡ v (row_zero p) → z ≡ 0 → a ≡ row_formed v p → a ≡ true → b ≡ filled v p → b ≡ true
       → d ≡ tabs_true v p → d ≡ true → r ≡ each (p - 1) (λ q. not (clash v q p)) → r ≡ row_good v p
   unfolding row_good row_spare
   row_new e z f h g i j k l =
-      rw (eq-eqb (v (rowZero p)) 0 (sym e ∙ z), sym f ∙ h, sym g ∙ i, sym j ∙ k) l
+      rw (eq-eqb (v (row_zero p)) 0 (sym e ∙ z), sym f ∙ h, sym g ∙ i, sym j ∙ k) l

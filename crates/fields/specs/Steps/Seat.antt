@@ -7,7 +7,7 @@ use Rattle.std.proofs.Math.Dec.{leb, eqb}
 use borrow.Author.Tests.{eq-eqb, ne_eqb, le-leb, lt-leb}
 use Rattle.terms.specs.Names.{legal_options}
 use Rattle.fields.specs.Base.{each, one, bits}
-use Rattle.fields.specs.Rule.View.{View, tenant, options, selected, seatZero, opens, slots}
+use Rattle.fields.specs.Rule.View.{View, tenant, options, selected, seat_zero, opens, slots}
 use Rattle.fields.specs.Rule.Layout.{most_opens, view}
 use Rattle.fields.specs.Rule.Clause.{seat_in_range, opens_in_range, seat_spare, empty_tab, empty_seat, let_or_empty, map_agrees}
 use Rattle.fields.specs.Rule.Clause.{selected_live}
@@ -117,10 +117,10 @@ module _ (v : View) (s : ℕ) where
   unfolding seat_good
   seat_range e h = rw (sym e ∙ h)
 
-  pub seat_spare_lem : {z : ℕ} → z ≡ v (seatZero s) → z ≢ 0 → false ≡ seat_good most_opens v s
+  pub seat_spare_lem : {z : ℕ} → z ≡ v (seat_zero s) → z ≢ 0 → false ≡ seat_good most_opens v s
   unfolding seat_good seat_spare
   seat_spare_lem e h =
-      rw (ne_eqb (v (seatZero s)) 0 (λ z. h (e ∙ z)), and-false (seat_in_range v s && opens_in_range most_opens v s))
+      rw (ne_eqb (v (seat_zero s)) 0 (λ z. h (e ∙ z)), and-false (seat_in_range v s && opens_in_range most_opens v s))
 
   pub seat_let : {r : Bool} → r ≡ let_or_empty v s → r ≡ false → false ≡ seat_good most_opens v s
   unfolding seat_good
@@ -142,7 +142,7 @@ module _ (v : View) (s : ℕ) where
   -- the tests that the tab rows are left with
   pub record Headed : Type 0 where
     pub ranges : seat_in_range v s ≡ true
-    pub spare : v (seatZero s) ≡ 0
+    pub spare : v (seat_zero s) ≡ 0
     pub unlet : let_or_empty v s ≡ true
     pub map : v (slots s) ≡ bits 10 (λ k. live v s k)
     pub pick : selected_live v s ≡ true
@@ -154,7 +154,7 @@ module _ (v : View) (s : ℕ) where
       rw (
         w.ranges,
         le-leb (v (opens s)) most_opens (omega arith),
-        eq-eqb (v (seatZero s)) 0 w.spare,
+        eq-eqb (v (seat_zero s)) 0 w.spare,
         w.unlet,
         eq-eqb (v (slots s)) (bits 10 (λ k. live v s k)) w.map,
         w.pick,

@@ -1,7 +1,7 @@
 // The fields of a process row, and its name.
 ghost use Rattle.std.specs.Prelude.{◌≡◌, ◌≤◌, ◌<◌};
 ghost use Rattle.fields.specs.Table.{view, most_number, name_of, RowOf};
-ghost use Rattle.fields.specs.Table.{number, owner, tabs, size, rowZero, letter};
+ghost use Rattle.fields.specs.Table.{number, owner, tabs, size, row_zero, letter};
 ghost use Rattle.fields.specs.Inner.{LetterOf, WroteField};
 
 use crate::layout::{ROOM, ROW_HEAD, row_at};
@@ -66,7 +66,7 @@ pub fn set_size(t: &mut [u8], p: usize, x: usize)
 
 pub fn row_zero(t: &[u8], p: usize) -> u8
     requires { RowOf t.now p }
-    ensures { result ≡ view t.now (rowZero p) }
+    ensures { result ≡ view t.now (row_zero p) }
 {
     one_at(t, row_at(p) + 7)
 }

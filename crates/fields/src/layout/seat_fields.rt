@@ -1,7 +1,7 @@
 // The fields of a seat.
 ghost use Rattle.std.specs.Prelude.{◌≡◌, ◌≤◌, ◌<◌, eqb};
 ghost use Rattle.fields.specs.Table.{view, most_opens, SeatOf};
-ghost use Rattle.fields.specs.Table.{tenant, options, selected, seatZero, opens, slots};
+ghost use Rattle.fields.specs.Table.{tenant, options, selected, seat_zero, opens, slots};
 ghost use Rattle.fields.specs.Inner.{WroteField};
 
 use crate::layout::{MOST_OPENS, seat_at};
@@ -52,7 +52,7 @@ pub fn set_selected(t: &mut [u8], s: usize, x: usize)
 
 pub fn seat_zero(t: &[u8], s: usize) -> u8
     requires { SeatOf t.now s }
-    ensures { result ≡ view t.now (seatZero s) }
+    ensures { result ≡ view t.now (seat_zero s) }
 {
     one_at(t, seat_at(s) + 3)
 }

@@ -1,7 +1,7 @@
 // The fields of the trailer.
 ghost use Rattle.std.specs.Prelude.{◌≡◌, ◌≤◌, ◌<◌, length};
 ghost use Rattle.fields.specs.Table.{view, most_number, table_bytes};
-ghost use Rattle.fields.specs.Table.{seatsAt, rows_at, last};
+ghost use Rattle.fields.specs.Table.{seats_at, rows_at, last};
 ghost use Rattle.fields.specs.Inner.{WroteField};
 
 use crate::layout::{LAST, ROWS_AT, SEATS_AT};
@@ -9,7 +9,7 @@ use terms::num::{four_at, put_four, put_two, two_at};
 
 pub(crate) fn seats_at(t: &[u8]) -> usize
     requires { length t.now ≡ table_bytes }
-    ensures { result ≡ view t.now seatsAt }
+    ensures { result ≡ view t.now seats_at }
 {
     two_at(t, SEATS_AT)
 }

@@ -15,7 +15,7 @@ use Rattle.fields.specs.Table.{view, sound_table, live, waits}
 use Rattle.fields.specs.Promises.{mark_sound, unmark_sound}
 use Rattle.rules.specs.Rule.Frame.{Frame, frames}
 use Rattle.rules.specs.Rule.Action.{set, get, fetch, open_socket}
-use Rattle.rules.specs.Rule.Desk.{Desk, desk, desk_at, refuse, reply, changed, Change, stay, setMark, clearMark}
+use Rattle.rules.specs.Rule.Desk.{Desk, desk, desk_at, refuse, reply, changed, Change, stay, set_mark, clear_mark}
 use Rattle.rules.specs.Rule.Allow.{cookie_domain, is_url}
 use Rattle.rules.specs.Rule.Tab.{ask, display_rule, socket_rule, url_rule, store_rule, retrieve_rule, result_rule}
 use Rattle.rules.specs.Rule.Tab.{document_rule}
@@ -52,14 +52,14 @@ domain_length domain suffix e = (name_length domain (and_left (is_name domain) (
 module _ (t : List ℕ) (s k : ℕ) (there : live (view t) s k ≡ true) where
   -- a mark that is not there can be set, and one that is there can be cleared
   set_kept : (m : Mark) (a : Bool) → a && not (waits (view t) s k m) ≡ true → sound_table t ≡ true
-      → sound_table (changed t s (setMark k m)) ≡ true
+      → sound_table (changed t s (set_mark k m)) ≡ true
   unfolding changed
   set_kept m a h e =
       let w = waits (view t) s k m in
       mark_sound t s k m (record { sound = e; there = there }) (not-true w (and_right a (not w) h))
 
   clear_kept : (m : Mark) → waits (view t) s k m ≡ true → sound_table t ≡ true
-      → sound_table (changed t s (clearMark k m)) ≡ true
+      → sound_table (changed t s (clear_mark k m)) ≡ true
   unfolding changed
   clear_kept m h e = unmark_sound t s k m (record { sound = e; there = there }) h
 
@@ -92,7 +92,7 @@ module _ (t : List ℕ) (s k : ℕ) (there : live (view t) s k ≡ true) where
   unfolding url_rule desk
   url_orderly u n =
       let i = (desk_at t s).id k in
-      ask_orderly _ i (fetch i u) (setMark k Document) (λ _. n) (set_kept Document (is_url u))
+      ask_orderly _ i (fetch i u) (set_mark k Document) (λ _. n) (set_kept Document (is_url u))
 
   pub store_orderly : (domain x : List ℕ) → 1 + length domain + length x ≤ 4096
       → OrderlyAt t s (store_rule (desk_at t s) k domain x)
@@ -109,17 +109,17 @@ module _ (t : List ℕ) (s k : ℕ) (there : live (view t) s k ≡ true) where
       let named = cookie_domain domain (d.suffix k) in
       let waiting = waits (view t) s k Cookie in
       let z = get_length (d.process k) (d.id k) domain in
-      ask_orderly (named && not waiting) (d.id k) (get (d.process k) (d.id k) domain) (setMark k Cookie)
+      ask_orderly (named && not waiting) (d.id k) (get (d.process k) (d.id k) domain) (set_mark k Cookie)
       (λ h. let n = domain_length domain (d.suffix k) (and_left named (not waiting) h) in omega arith)
       (set_kept Cookie named)
 
   -- ---- to it
 
   passed_orderly : (allowed : Bool) (a : Frame) (m : Mark) → (allowed ≡ true → waits (view t) s k m ≡ true) → length a.payload ≤ 4096
-      → OrderlyAt t s (cond allowed (reply (a ∷ []) (clearMark k m)) (refuse 10))
+      → OrderlyAt t s (cond allowed (reply (a ∷ []) (clear_mark k m)) (refuse 10))
   passed_orderly allowed a m w n =
       either (OrderlyAt t s) allowed _ _
-      (λ h. ok_reply t s _ (clearMark k m) (omega arith) (omega arith) (clear_kept m (w h)))
+      (λ h. ok_reply t s _ (clear_mark k m) (omega arith) (omega arith) (clear_kept m (w h)))
       (λ _. no_reply t s 10 (omega arith))
 
   pub result_orderly : (n : ℕ) (x : List ℕ) → length x ≤ 4096 → OrderlyAt t s (result_rule (desk_at t s) n k x)

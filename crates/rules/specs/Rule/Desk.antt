@@ -85,15 +85,15 @@ pub data Change : Type 0 where
   open_tab : List ℕ → Change
   select_tab : ℕ → Change
   close_tab : Change
-  setMark clearMark : ℕ → Mark → Change
+  set_mark clear_mark : ℕ → Mark → Change
 
 unfoldable pub changed : List ℕ → ℕ → Change → List ℕ
 changed t s stay = t
 changed t s (open_tab x) = opened t s x
 changed t s (select_tab k) = picked t s k
 changed t s close_tab = closed t s
-changed t s (setMark k m) = marked t s k m
-changed t s (clearMark k m) = unmarked t s k m
+changed t s (set_mark k m) = marked t s k m
+changed t s (clear_mark k m) = unmarked t s k m
 
 pub record Reply : Type 0 where
   pub number : ℕ

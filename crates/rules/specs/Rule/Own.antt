@@ -1,8 +1,8 @@
 -- Who can change what: a tab is started and stopped by its own seat alone, and a seat's event leaves alone what is another's.
 -- Assumes nothing.
 use Rattle.std.specs.Prelude.{ℕ, ◌≡◌, true, ◌≢◌, List, get_or}
-use Rattle.fields.specs.Table.{View, Field, tenant, options, selected, seatZero, opens, slots, serial, row, waiting, number}
-use Rattle.fields.specs.Table.{owner, tabs, size, rowZero, letter, seatsAt, rows_at, last, view, seat_of_id, used, owner_at}
+use Rattle.fields.specs.Table.{View, Field, tenant, options, selected, seat_zero, opens, slots, serial, row, waiting, number}
+use Rattle.fields.specs.Table.{owner, tabs, size, row_zero, letter, seats_at, rows_at, last, view, seat_of_id, used, owner_at}
 use Rattle.rules.specs.Sheet.{Frame}
 use Rattle.rules.specs.Rule.Call.{Call, table, event, actions, left, Past, party_of, id_of, tag_of, Every, given}
 
@@ -35,7 +35,7 @@ unfoldable pub Anothers : View → ℕ → Field → Type 0
 Anothers v s (tenant r) = r ≢ s
 Anothers v s (options r) = r ≢ s
 Anothers v s (selected r) = r ≢ s
-Anothers v s (seatZero r) = r ≢ s
+Anothers v s (seat_zero r) = r ≢ s
 Anothers v s (opens r) = r ≢ s
 Anothers v s (slots r) = r ≢ s
 Anothers v s (serial r k) = r ≢ s
@@ -45,9 +45,9 @@ Anothers v s (number p) = Foreign v s p
 Anothers v s (owner p) = Foreign v s p
 Anothers v s (tabs p) = Foreign v s p
 Anothers v s (size p) = Foreign v s p
-Anothers v s (rowZero p) = Foreign v s p
+Anothers v s (row_zero p) = Foreign v s p
 Anothers v s (letter p j) = Foreign v s p
-Anothers v s seatsAt = Unit {0}
+Anothers v s seats_at = Unit {0}
 Anothers v s rows_at = Unit {0}
 Anothers v s last = ⊥
 

@@ -89,10 +89,10 @@ unfoldable pub answer : Outcome → ℕ
 answer x = packed x.number (length x.actions) (length (frames x.actions))
 
 -- a step, of a room that is lent: the answer, the table, and the frames over the front of the room
-pub record Stepped (x : Outcome) (lent table_after roomAfter : List ℕ) (r : ℕ) : Type 0 where
+pub record Stepped (x : Outcome) (lent table_after room_after : List ℕ) (r : ℕ) : Type 0 where
   pub says : r ≡ answer x
   pub table : table_after ≡ x.table
-  pub room : roomAfter ≡ over lent 0 (frames x.actions)
+  pub room : room_after ≡ over lent 0 (frames x.actions)
 
 -- a start
 pub record Started (x : Outcome) (table_after : List ℕ) (r : ℕ) : Type 0 where

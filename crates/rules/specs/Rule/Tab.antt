@@ -4,7 +4,7 @@ use Rattle.std.specs.Prelude.{ℕ, Bool, not, ◌&&◌, cond, List, [], ◌∷�
 use Rattle.fields.specs.declared.mark.Mark.TheVariants.{Cookie, Document}
 use Rattle.rules.specs.Rule.Event.{part}
 use Rattle.rules.specs.Rule.Action.{paint, error, document, cookie, set, get, fetch, open_socket}
-use Rattle.rules.specs.Rule.Desk.{Desk, Reply, refuse, reply, Change, stay, setMark, clearMark}
+use Rattle.rules.specs.Rule.Desk.{Desk, Reply, refuse, reply, Change, stay, set_mark, clear_mark}
 use Rattle.rules.specs.Rule.Frame.{Frame}
 use Rattle.rules.specs.Rule.Allow.{cookie_domain, socket_allowed, is_url}
 use Rattle.rules.specs.declared.event.TabMessage.{TabMessage}
@@ -26,7 +26,7 @@ socket_rule d k port host =
 
 -- ".. no document waiting; sets it"
 unfoldable pub url_rule : Desk → ℕ → List ℕ → Reply
-url_rule d k u = ask (is_url u && not (d.waits k Document)) (d.id k) (fetch (d.id k) u) (setMark k Document)
+url_rule d k u = ask (is_url u && not (d.waits k Document)) (d.id k) (fetch (d.id k) u) (set_mark k Document)
 
 unfoldable pub store_rule : Desk → ℕ → List ℕ → List ℕ → Reply
 store_rule d k domain x = ask (cookie_domain domain (d.suffix k)) (d.id k) (set (d.process k) domain x) stay
@@ -35,7 +35,7 @@ store_rule d k domain x = ask (cookie_domain domain (d.suffix k)) (d.id k) (set 
 unfoldable pub retrieve_rule : Desk → ℕ → List ℕ → Reply
 retrieve_rule d k domain =
     ask (cookie_domain domain (d.suffix k) && not (d.waits k Cookie)) (d.id k) (get (d.process k) (d.id k) domain)
-    (setMark k Cookie)
+    (set_mark k Cookie)
 
 -- ---- a tab's message, its bytes being in e; b is the book, as a seat's rule has it, and none of these reads it
 
@@ -51,8 +51,8 @@ tab_rule d b e k (Retrieve n) = retrieve_rule d k (part e n)
 -- "Result: passed on if the tab is live, hangs on the sender and waits for a cookie; the mark is cleared."
 unfoldable pub result_rule : Desk → ℕ → ℕ → List ℕ → Reply
 result_rule d n k x =
-    cond (eqb (d.process k) n && d.waits k Cookie) (reply (cookie (d.id k) x ∷ []) (clearMark k Cookie)) (refuse 10)
+    cond (eqb (d.process k) n && d.waits k Cookie) (reply (cookie (d.id k) x ∷ []) (clear_mark k Cookie)) (refuse 10)
 
 -- "Document likewise with its mark."
 unfoldable pub document_rule : Desk → ℕ → List ℕ → Reply
-document_rule d k x = cond (d.waits k Document) (reply (document (d.id k) x ∷ []) (clearMark k Document)) (refuse 10)
+document_rule d k x = cond (d.waits k Document) (reply (document (d.id k) x ∷ []) (clear_mark k Document)) (refuse 10)

@@ -7,7 +7,7 @@ use Rattle.fields.specs.Table.{view, waits, unmarked}
 use Rattle.fields.specs.declared.mark.Mark.{Mark}
 use Rattle.fields.specs.declared.mark.Mark.TheVariants.{Cookie, Document}
 use Rattle.rules.specs.Rule.Frame.{framed}
-use Rattle.rules.specs.Rule.Desk.{desk, desk_at, reply, clearMark, changed}
+use Rattle.rules.specs.Rule.Desk.{desk, desk_at, reply, clear_mark, changed}
 use Rattle.rules.specs.Rule.Tab.{result_rule, document_rule}
 use Rattle.rules.specs.Held.{Sent, Says, Replied}
 use Rattle.rules.specs.Steps.Decide.{replied_refused, replied_done}
@@ -40,7 +40,7 @@ module _ (t : List ℕ) (s k : ℕ) where
 
     pub result_passed : {o t' o' : List ℕ} {r : Bool} {g : Verdict} (x : List ℕ)
         → r ≡ eqb ((desk_at t s).process k) n && (desk_at t s).waits k Cookie → r ≡ true
-        → Replied t s (reply (framed 2 ((desk_at t s).id k) 7 x ∷ []) (clearMark k Cookie)) o t' o' g
+        → Replied t s (reply (framed 2 ((desk_at t s).id k) 7 x ∷ []) (clear_mark k Cookie)) o t' o' g
         → Replied t s (result_rule (desk_at t s) n k x) o t' o' g
     unfolding result_rule
     result_passed x e h w = rw (sym e ∙ h) w
@@ -53,7 +53,7 @@ module _ (t : List ℕ) (s k : ℕ) where
   document_refused x e h = replied_refused (rw (sym e ∙ h))
 
   pub document_passed : {o t' o' : List ℕ} {r : Bool} {g : Verdict} (x : List ℕ) → r ≡ waits (view t) s k Document → r ≡ true
-      → Replied t s (reply (framed 2 ((desk_at t s).id k) 6 x ∷ []) (clearMark k Document)) o t' o' g
+      → Replied t s (reply (framed 2 ((desk_at t s).id k) 6 x ∷ []) (clear_mark k Document)) o t' o' g
       → Replied t s (document_rule (desk_at t s) k x) o t' o' g
   unfolding document_rule desk
   document_passed x e h w = rw (sym e ∙ h) w
@@ -62,6 +62,6 @@ module _ (t : List ℕ) (s k : ℕ) where
 
   pub passed : {o t' o' : List ℕ} {i tag n : ℕ} {g : Verdict} (m : Mark) (x : List ℕ) → i ≡ (desk_at t s).id k
       → Sent o 0 (framed 2 i tag x ∷ []) o' n → t' ≡ unmarked t s k m → Says 0 1 n g
-      → Replied t s (reply (framed 2 ((desk_at t s).id k) tag x ∷ []) (clearMark k m)) o t' o' g
+      → Replied t s (reply (framed 2 ((desk_at t s).id k) tag x ∷ []) (clear_mark k m)) o t' o' g
   unfolding changed
-  passed m x j w f = replied_done (clearMark k m) refl (sent_id j w) f
+  passed m x j w f = replied_done (clear_mark k m) refl (sent_id j w) f

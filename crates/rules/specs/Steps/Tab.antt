@@ -13,7 +13,7 @@ use Rattle.fields.specs.Table.{view, selected, waits, marked}
 use Rattle.fields.specs.declared.mark.Mark.TheVariants.{Cookie, Document}
 use Rattle.rules.specs.Rule.Frame.{be, framed}
 use Rattle.rules.specs.Rule.Action.{error}
-use Rattle.rules.specs.Rule.Desk.{desk, desk_at, reply, stay, setMark, changed}
+use Rattle.rules.specs.Rule.Desk.{desk, desk_at, reply, stay, set_mark, changed}
 use Rattle.rules.specs.Rule.Allow.{cookie_domain, socket_allowed, is_url}
 use Rattle.rules.specs.Rule.Tab.{ask, display_rule, socket_rule, url_rule, store_rule, retrieve_rule}
 use Rattle.rules.specs.Held.{Sent, Says, Replied}
@@ -92,7 +92,7 @@ module _ (t : List ℕ) (s k : ℕ) where
       → Sent o 0 (framed 4 i 1 u ∷ []) o' n → t' ≡ marked t s k Document → Says 0 1 n g
       → Replied t s (url_rule (desk_at t s) k u) o t' o' g
   unfolding url_rule ask changed
-  url_done u e h j w f = replied_done (setMark k Document) (rw (sym e ∙ h)) (sent_id j w) f
+  url_done u e h j w f = replied_done (set_mark k Document) (rw (sym e ∙ h)) (sent_id j w) f
 
   -- ---- store
 
@@ -153,5 +153,5 @@ module _ (t : List ℕ) (s k : ℕ) where
         → Replied t s (retrieve_rule (desk_at t s) k domain) o t' o' g
     unfolding retrieve_rule ask changed
     retrieve_done e h i l j w f =
-        replied_done (setMark k Cookie) (rw (sym e ∙ h))
+        replied_done (set_mark k Cookie) (rw (sym e ∙ h))
         (sent_payload _ _ (ap (λ (y : List ℕ). y ++ folded domain) (l ∙ ap (be 4) i)) (sent_id j w)) f

@@ -2,8 +2,8 @@
 use Rattle.std.specs.Prelude.{ℕ, ◌≡◌, ◌≢◌, List}
 use Rattle.std.proofs.Common.{sym, subst, ◌∙◌, inl}
 use Rattle.std.proofs.lemmas.Bool.{false≢true}
-use Rattle.fields.specs.Table.{View, Field, tenant, options, selected, seatZero, opens, slots, serial, row, waiting, number}
-use Rattle.fields.specs.Table.{owner, tabs, size, rowZero, letter, seatsAt, rows_at, last, view}
+use Rattle.fields.specs.Table.{View, Field, tenant, options, selected, seat_zero, opens, slots, serial, row, waiting, number}
+use Rattle.fields.specs.Table.{owner, tabs, size, row_zero, letter, seats_at, rows_at, last, view}
 use Rattle.fields.specs.Table.{owner_at, process_with, Openable, Closable, opened, picked, closed}
 use Rattle.fields.specs.Table.{TabLive}
 use Rattle.fields.specs.Promises.{row_for_slot}
@@ -25,7 +25,7 @@ record Local (v u : View) (s k p : ℕ) : Type 0 where
   seats : Changed v u s k
   others : (q : ℕ) → q ≢ p → KeptRow v u q
   tabs= : (q : ℕ) → q ≢ p → u (tabs q) ≡ v (tabs q)
-  row_zero= : (q : ℕ) → u (rowZero q) ≡ v (rowZero q)
+  row_zero= : (q : ℕ) → u (row_zero q) ≡ v (row_zero q)
   offsets : Offsets v u
 
 module _ {v u : View} {s k p : ℕ} (w : Local v u s k p) (own : Foreign v s p → ⊥) where
@@ -37,7 +37,7 @@ module _ {v u : View} {s k p : ℕ} (w : Local v u s k p) (own : Foreign v s p �
   local_own (tenant r) n = w.seats.tenant= r
   local_own (options r) n = w.seats.options= r
   local_own (selected r) n = w.seats.selected= r n
-  local_own (seatZero r) n = w.seats.seat_zero= r
+  local_own (seat_zero r) n = w.seats.seat_zero= r
   local_own (opens r) n = w.seats.opens= r n
   local_own (slots r) n = w.seats.slots= r n
   local_own (serial r j) n = w.seats.serial= r j (inl n)
@@ -47,9 +47,9 @@ module _ {v u : View} {s k p : ℕ} (w : Local v u s k p) (own : Foreign v s p �
   local_own (owner q) h = (w.others q (other h)).owner=
   local_own (tabs q) h = w.tabs= q (other h)
   local_own (size q) h = (w.others q (other h)).size=
-  local_own (rowZero q) h = w.row_zero= q
+  local_own (row_zero q) h = w.row_zero= q
   local_own (letter q j) h = (w.others q (other h)).letter= j
-  local_own seatsAt h = w.offsets.seats_at=
+  local_own seats_at h = w.offsets.seats_at=
   local_own rows_at h = w.offsets.rows_at=
   local_own last h = absurd h
 

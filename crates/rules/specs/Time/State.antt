@@ -5,8 +5,8 @@ use Rattle.std.proofs.Common.{sym, ap₂, ◌∙◌, ⊎_elim, arith, eq-eqb, ne
 use Rattle.std.proofs.lemmas.Bool.{false≢true}
 use Rattle.terms.specs.Base.{Range}
 use Rattle.terms.specs.Laws.Bools.{within_in}
-use Rattle.fields.specs.Table.{View, Field, tenant, options, selected, seatZero, opens, slots, serial, row, waiting, number}
-use Rattle.fields.specs.Table.{owner, tabs, size, rowZero, letter, seatsAt, rows_at, last, view, sound_table, waits}
+use Rattle.fields.specs.Table.{View, Field, tenant, options, selected, seat_zero, opens, slots, serial, row, waiting, number}
+use Rattle.fields.specs.Table.{owner, tabs, size, row_zero, letter, seats_at, rows_at, last, view, sound_table, waits}
 use Rattle.fields.specs.Table.{marked, unmarked}
 use Rattle.fields.specs.declared.mark.Mark.{Mark}
 use Rattle.fields.specs.declared.mark.Mark.TheVariants.{Cookie, Document}
@@ -31,7 +31,7 @@ module _ (v u : View) (s k : ℕ) (w : Quiet v u s k) (chosen : (r : ℕ) → u 
   quiet_rest (tenant r) n = w.rest.tenant= r
   quiet_rest (options r) n = w.rest.options= r
   quiet_rest (selected r) n = chosen r
-  quiet_rest (seatZero r) n = w.rest.seat_zero= r
+  quiet_rest (seat_zero r) n = w.rest.seat_zero= r
   quiet_rest (opens r) n = at_or (λ x. u (opens x) ≡ v (opens x)) r s w.opens= (w.rest.opens= r)
   quiet_rest (slots r) n = at_or (λ x. u (slots x) ≡ v (slots x)) r s w.slots= (w.rest.slots= r)
   quiet_rest (serial r j) n =
@@ -43,9 +43,9 @@ module _ (v u : View) (s k : ℕ) (w : Quiet v u s k) (chosen : (r : ℕ) → u 
   quiet_rest (owner p) n = (w.rows.same p).owner=
   quiet_rest (tabs p) n = w.tabs= p
   quiet_rest (size p) n = (w.rows.same p).size=
-  quiet_rest (rowZero p) n = w.rows.row_zero= p
+  quiet_rest (row_zero p) n = w.rows.row_zero= p
   quiet_rest (letter p j) n = (w.rows.same p).letter= j
-  quiet_rest seatsAt n = w.rows.offsets.seats_at=
+  quiet_rest seats_at n = w.rows.offsets.seats_at=
   quiet_rest rows_at n = w.rows.offsets.rows_at=
   quiet_rest last n = w.rows.last=
 
