@@ -2,7 +2,7 @@
 # make run        prove and build the programs, and print the desk log of the worked example of document 01
 # make host       prove the kernel, build its library and run the example host: the same example, through C
 # make day        prove the kernel, and play the freight forwarder's day with real tab and cookie programs
-# make test       the gate: proofs from nothing, must-fail edits, programs, the C boundary, the second reading
+# make test       the gate: proofs, must-fail edits, programs, the C boundary, the second reading
 # make mutants    print docs/MUTANTS.md: wrong references, and which test notices each
 # make fuzz       fuzz for TIME seconds, 60 unless set, from the corpus on
 # make bench      print docs/BENCH.md: what a step costs, beside plain C and the reference; the desk log beside the kernel
@@ -26,8 +26,8 @@ endif
 all: archive program
 	rt all check
 
-# $(call prove,CRATE,WORDS): runs rt in the crate's folder with these words. All that it says is in target/CRATE.log, and is shown if it
-# fails; until then a line for each crate of which something had to be proved.
+# $(call prove,CRATE,WORDS): runs rt in the crate's folder with these words. All that it says is in target/CRATE.log, and is shown
+# if it fails; until then a line for each crate of which something had to be proved.
 define prove
 	@mkdir -p target
 	@[[ -e crates/terms/out/rlib ]] || echo 'nothing is proved yet: this takes some minutes' >&2

@@ -134,9 +134,10 @@ def exported():
     clauses = {}
     for crate in ('kernel', 'kernel_c'):
         path = ROOT / f'crates/{crate}/src/lib.rt'
-        clauses[crate] = {name: (text, sorted(named(path, text))) for name, text in CONTRACT.findall(read(path)) if name in CALLS['kernel']}
-    check('kernel_c promises what kernel does', clauses['kernel'].keys() == CALLS['kernel'] and clauses['kernel'] == clauses['kernel_c'],
-          clauses)
+        clauses[crate] = {name: (text, sorted(named(path, text)))
+                          for name, text in CONTRACT.findall(read(path)) if name in CALLS['kernel']}
+    whole = clauses['kernel'].keys() == CALLS['kernel']
+    check('kernel_c promises what kernel does', whole and clauses['kernel'] == clauses['kernel_c'], clauses)
 
 
 def theorems(stated):
