@@ -2,7 +2,7 @@
 # make run        prove and build the programs, and print the desk log of the worked example of document 01
 # make host       prove the kernel, build its library and run the example host: the same example, through C
 # make day        prove the kernel, and play the freight forwarder's day with real tab and cookie programs
-# make test       the gate: proofs from nothing, must-fail edits, programs, the C boundary, the second reading
+# make test       the gate: proofs, must-fail edits, programs, the C boundary, the second reading
 # make mutants    print docs/MUTANTS.md: wrong references, and which test notices each
 # make fuzz       fuzz for TIME seconds, 60 unless set, from the corpus on
 # make bench      print docs/BENCH.md: what a step costs, beside plain C and the reference; the desk log beside the kernel
@@ -21,31 +21,42 @@ CC = gcc
 endif
 
 .PHONY: all run host day test mutants fuzz bench fmt clean archive program reference always
-.NOTPARALLEL: # rt has jobs of its own, and target/ is for one rt at a time
+.NOTPARALLEL: # rt has jobs of its own, and a crate is for one rt at a time
 
-all: archive
-	rt check
+all: archive program
+	rt all check
 
-# $(call prove,WORDS,LOG): runs rt with these words. All that it says is in the log, and is shown if it fails; until then a line for
-# each crate that had to be proved.
+# $(call prove,CRATE,WORDS): runs rt in the crate's folder with these words. All that it says is in target/CRATE.log, and is shown
+# if it fails; until then a line for each crate of which something had to be proved.
 define prove
 	@mkdir -p target
-	@[[ -e target/stamp ]] || echo 'nothing is proved yet: this takes some minutes' >&2
-	@rt $(1) 2>&1 | tee target/$(2).log | sed -un '/(unchanged/d; /^rt: /p' >&2 || { cat target/$(2).log >&2; exit 1; }
+	@[[ -e crates/terms/out/rlib ]] || echo 'nothing is proved yet: this takes some minutes' >&2
+	@(cd crates/$(1) && rt $(2)) </dev/null 2>&1 | tee target/$(1).log | \
+	    sed -Eun 's/^crate ([a-z0-9_]+): modules loaded=[0-9]+ checked=[1-9].*/rt: \1/p' >&2 || \
+	    { cat target/$(1).log >&2; exit 1; }
 endef
+
+# $(call put,FILE,MODE): puts the file there if it is another than what is there.
+put = @mkdir -p $(@D); cmp -s $(1) $@ || install -m $(2) $(1) $@
 
 archive: $(ARCHIVE)
 
-# rt staticlib proves at each call; rt check only what has changed, and else it leaves the library's file as it is.
-$(ARCHIVE): target/rlib/kernel.rlib
-	@echo 'the kernel is proved once more, for the library that C links' >&2
-	$(call prove,staticlib kernel,archive)
+# rt lib builds a static library at each call; of a library below it only what has changed, and the stamp tells whether it has.
+$(ARCHIVE): target/kernel.stamp crates/kernel_c/src/lib.rt
+	$(call prove,kernel_c,lib)
+	$(call put,crates/kernel_c/out/libkernel_c.a,644)
+	@touch $@
 
-target/rlib/kernel.rlib: always
-	$(call prove,check kernel,kernel)
+target/kernel.stamp: always
+	$(call prove,kernel,lib)
+	$(call put,crates/kernel/out/rlib/stamp,644)
 
-program:
-	$(call prove,check $(PROGRAMS),program)
+program: $(PROGRAMS:%=target/bin/%)
+
+# rt run builds a program where something has changed, and runs it.
+target/bin/%: always
+	$(call prove,$*,run -- --version)
+	$(call put,crates/$*/out/$*,755)
 
 reference:
 	@cargo build --quiet --release --offline --manifest-path reference/c/Cargo.toml --target-dir target/rust
@@ -75,9 +86,9 @@ bench: archive program reference
 	@bench/log.py
 
 fmt:
-	rt fmt
+	@for crate in crates/*/; do (cd "$$crate" && rt fmt) || exit; done
 
 clean:
-	rm -rf target
+	rm -rf target crates/*/out
 
 include install/install.mk

@@ -27,7 +27,7 @@ holds() {
 closed() { (umask 077 && make install PREFIX="$at") && ! find "$at" -type d ! -perm 755 | grep .; }
 
 # Once more: the same files, and nothing is proved again.
-state() { (cd "$at" && find . -type f -exec sha256sum {} + | sort) && stat -c '%n %y' target/*lib/*; }
+state() { (cd "$at" && find . -type f -exec sha256sum {} + | sort) && stat -c '%n %y' target/{bin,staticlib}/*; }
 again() { state >"$work/state" && make install PREFIX="$at" && state | diff "$work/state" -; }
 
 # The pkg-config file and the header have the version of the file VERSION.

@@ -16,7 +16,7 @@ from specs import (ROOT, SPECS, WORD, called, defining, files_in, line_of, names
 
 RULES, TRUST, README = 'docs/RULES.md', 'docs/TRUST.md', 'README.md'
 PLACE = r'\(([a-z_]+)/([A-Za-z]+(?:/[A-Za-z]+)*)\)'
-# `isName`, `labels` (names/Rule/Name)
+# `is_name`, `labels` (names/Rule/Name)
 CITED = re.compile(rf'((?:`{WORD}`,? )+){PLACE}')
 
 
@@ -56,8 +56,8 @@ def cited(text):
 
 def laid_out(text):
     """The fields of a layout adjoin, and those of the table lie where the definition of its layout has them."""
-    source = read(defining('formAt')[0])
-    at, width = (dict(re.findall(rf'^{name} \(?(\w+).*? = (.*)$', source, re.M)) for name in ('formAt', 'formWidth'))
+    source = read(defining('form_at')[0])
+    at, width = (dict(re.findall(rf'^{name} \(?(\w+).*? = (.*)$', source, re.M)) for name in ('form_at', 'form_width'))
     fields = set()
     for head, *rows in tables(text):
         if head[:2] != ['Offset', 'Bytes']:

@@ -65,7 +65,7 @@ def called(who, name):
 
 def names_in(text):
     """The names in a text, those in its quotations apart."""
-    return re.findall(r'`([\w′:-]+)`', re.sub(r'"[^"]*"', '', text))
+    return re.findall(r"`([\w':-]+)`", re.sub(r'"[^"]*"', '', text))
 
 
 def places_in(who, text, crate=''):

@@ -2,7 +2,7 @@
 """What a reader must believe, by docs/TRUST.md, is all that the statements name and nothing else. The statements are the contracts
 of the public calls and of the programs' loops, and the theorems of the page's tables, among which is every promise. Every definition
 that one of them names, and every definition that such a one names, stands in a file of the reading list or beside the theorem; every
-file of the list has one; and the counts on the page are those measured here.
+file of the list has one; the counts on the page are those measured here; and what C calls promises what the kernel does.
 
 usage: tests/trust.py [--list]
 
@@ -35,7 +35,7 @@ CONTRACT = re.compile(r'\bfn (\w+)(?:<[^>]*>)?\([^)]*\)(?: -> [^\n]*)?((?:\n    
 @functools.cache
 def file_of(module):
     """The file of a module: of a crate's specs, or of a type that its source declares; None for the toolchain's."""
-    found = re.fullmatch(r'Rattle·(\w+)(?:·specs)?\.specs\.(.+)', module)
+    found = re.fullmatch(r'Rattle\.(\w+)\.specs\.(.+)', module)
     if not found:
         return None
     crate, path = found.groups()
@@ -96,7 +96,7 @@ def meaning(path, word):
 def named(path, text):
     """The definitions that a text of a file names."""
     for word in set(BETWEEN.split(text)):
-        found = meaning(path, word)
+        found = meaning(path, word) or meaning(path, word.partition('.')[0])
         if found and (found[0].suffix == '.rt' or DEFINITION.match(declared(found[0])[0][found[1]])):
             yield found
 
@@ -129,6 +129,17 @@ def contracts(calls):
     return found
 
 
+def exported():
+    """A function that C calls promises what the kernel's of that name does, in the same words and of the same definitions."""
+    clauses = {}
+    for crate in ('kernel', 'kernel_c'):
+        path = ROOT / f'crates/{crate}/src/lib.rt'
+        clauses[crate] = {name: (text, sorted(named(path, text)))
+                          for name, text in CONTRACT.findall(read(path)) if name in CALLS['kernel']}
+    whole = clauses['kernel'].keys() == CALLS['kernel']
+    check('kernel_c promises what kernel does', whole and clauses['kernel'] == clauses['kernel_c'], clauses)
+
+
 def theorems(stated):
     """The definitions that theorems name: in what stands before their proofs, and in what a module of them takes as given."""
     found = []
@@ -158,6 +169,7 @@ text = read(TRUST)
 stated = {(path, name) for names, files, _ in theorem_rows(TRUST, section(text, 'What is proved beyond the functions'))
           for name in names for path in files if name in declared(path)[0]}
 promised(stated)
+exported()
 beside = {path for path, _ in stated}
 calls = closure(contracts(CALLS))
 known = closure(contracts(CALLS) + contracts(LOOPS) + theorems(stated))

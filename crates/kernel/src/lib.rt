@@ -1,6 +1,7 @@
 // The kernel between hosted desks, their tabs and their cookie processes: start and step, the only two functions that leave it.
-// The memory lent to one call does not overlap; nothing is kept between calls.
+// C has them through kernel_c. The memory lent to one call does not overlap; nothing is kept between calls.
 #![tactic(auto)]
+
 ghost use Rattle.std.specs.Prelude.{length};
 ghost use Rattle.rules.specs.Sheet.{step_of, start_of, Stepped, Started};
 ghost use Rattle.rules.specs.Inner.{Decided};
@@ -18,8 +19,7 @@ use table::fresh::fresh;
 const ROOM: usize = 4106;
 
 // A book into a table, whatever the table held.
-#[unsafe(no_mangle)]
-pub extern "C" fn stewlattice_start(table: &mut [u8], book: &[u8]) -> u64
+pub fn stewlattice_start(table: &mut [u8], book: &[u8]) -> u64
     ensures { Started (start_of table.old book.now) table.new result }
 {
     let long = is_long(table);
@@ -52,13 +52,7 @@ fn decide(table: &mut [u8], book: &[u8], event: &[u8], out: &mut [u8]) -> Verdic
 }
 
 // One event: for any bytes, what the rule sheet gives.
-#[unsafe(no_mangle)]
-pub extern "C" fn stewlattice_step(
-    table: &mut [u8],
-    book: &[u8],
-    event: &[u8],
-    out: &mut [u8],
-) -> u64
+pub fn stewlattice_step(table: &mut [u8], book: &[u8], event: &[u8], out: &mut [u8]) -> u64
     ensures { Stepped (step_of (length out.old) table.old book.now event.now) out.old table.new out.new result }
 {
     let given = decide(table, book, event, out);
