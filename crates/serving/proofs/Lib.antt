@@ -1,6 +1,2 @@
 -- What the proofs share.
-mod Again
-mod Slices
-mod Local
 mod Turns
-mod Result

@@ -1,3 +1,3 @@
-// Events of a buffered stream, given to the kernel one after another: what the program desklog has that is proved by hand.
+// Events of a buffered stream, given to the kernel one after another.
 #![tactic(auto)]
 pub mod serve;
