@@ -1,5 +1,6 @@
 // The program for support: book.bin and hosts in, and for each host a line with its suffix under the book.
 #![tactic(auto)]
+
 mod answer;
 mod cut;
 mod help;
@@ -9,7 +10,6 @@ mod turn;
 
 ghost use Rattle.std.specs.Prelude.{◌≡◌, length};
 
-use crate::run::run;
 use reader::book::{read_book, say_unsound};
 
 // Twice what the longest host takes, so that a read brings much even where one is held in part.
@@ -19,18 +19,18 @@ fn buffer() -> [u8; 131072]
     [0; 131072]
 }
 
-fn main() {
+fn main(rt: HostRuntime) {
     let who = b"asksuffix";
-    if help::answered(who) {
+    if help::answered(&rt, who) {
         return;
     }
     // a byte more than a book may have, so that one too long is seen to be
     let mut book = [0u8; 32769];
     let mut buf = buffer();
     let mut out = [0u8; 131];
-    let n = read_book(&mut book, who);
+    let n = read_book(&rt, &mut book, who);
     if !names::book::is_sound(&book[..n]) {
-        say_unsound(&book[..n], who);
+        say_unsound(&rt, &book[..n], who);
     }
-    run(&mut buf, &book[..n], &mut out, who);
+    run::run(&rt, &mut buf, &book[..n], &mut out, who);
 }

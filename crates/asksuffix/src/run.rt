@@ -10,7 +10,13 @@ use reader::place::Place;
 // A proved loop has to end, and nothing says that a stream does: turns are counted down, from a number that no run uses up.
 const TURNS: u64 = 18446744073709551615;
 
-pub fn run(buf: &mut [u8], book: &[u8], out: &mut [u8], who: &[u8])
+pub fn run(
+    rt: &(impl Input + Print + Eprint),
+    buf: &mut [u8],
+    book: &[u8],
+    out: &mut [u8],
+    who: &[u8],
+)
     requires { AskBuffers buf.old out.old }
     ensures { AskRan book.now buf.old out.old buf.new out.new }
 {
@@ -24,15 +30,15 @@ pub fn run(buf: &mut [u8], book: &[u8], out: &mut [u8], who: &[u8])
     };
     let mut left = TURNS;
     while left > 0 {
-        p = turn(buf, book, out, p, who);
+        p = turn(rt, buf, book, out, p, who);
         let filled = p.filled;
-        if !flush(out, filled, who) {
+        if !flush(rt, out, filled, who) {
             return;
         }
         if p.done {
             let place = p.place;
             let have = p.have;
-            say_cut(&buf[place..have], p.number);
+            say_cut(rt, &buf[place..have], p.number);
             return;
         }
         left -= 1;

@@ -38,7 +38,14 @@ fn stop(p: Place) -> Place
     }
 }
 
-pub fn turn(buf: &mut [u8], book: &[u8], out: &mut [u8], p: Place, who: &[u8]) -> Place
+pub fn turn(
+    rt: &(impl Input + Eprint),
+    buf: &mut [u8],
+    book: &[u8],
+    out: &mut [u8],
+    p: Place,
+    who: &[u8],
+) -> Place
     requires { Sound p (length buf.old) × (AskBuffers buf.old out.old × Countable p) }
     ensures { Turn buf.old book.now out.old p buf.new out.new result }
 {
@@ -50,5 +57,5 @@ pub fn turn(buf: &mut [u8], book: &[u8], out: &mut [u8], p: Place, who: &[u8]) -
     if p.ended {
         return stop(p);
     }
-    refill(buf, p, who)
+    refill(rt, buf, p, who)
 }

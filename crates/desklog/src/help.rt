@@ -1,7 +1,9 @@
 // What is said to whoever starts the program with an argument: its use, in a screenful.
 
+use std::rt::Env;
+
 // Whether there was an argument, which is all that is answered then.
-pub fn answered(who: &[u8]) -> bool {
+pub fn answered(rt: &(impl Print + Eprint + Env), who: &[u8]) -> bool {
     let text = b"desklog: what the kernel makes of a recording, line by line
 
 use: desklog < EVENTS > LOG
@@ -27,5 +29,5 @@ A missing or unreadable book.bin is read as empty; an empty book, and one of mor
 32768 bytes, is unsound. Standard error says why a start was refused, and what could not
 be read or written.
 ";
-    reader::argument::answered(who, text)
+    reader::argument::answered(rt, who, text)
 }

@@ -5,7 +5,6 @@ use frames::answer::{bytes_in, number_in};
 use runs::changes::count;
 use runs::number::at_most;
 use runs::parts::span;
-use std::num::wrapping_add_usize;
 
 // What the room holds before a call.
 const FILL: u8 = 165;
@@ -17,6 +16,7 @@ pub type Room = [u8; 4200];
 
 // How much of the memory is lent to a call, and how many events there were since the last start.
 #[derive(Drop)]
+#[derive(Clone, Copy)]
 pub struct Lent {
     pub table: usize,
     pub room: usize,
@@ -27,6 +27,7 @@ pub struct Lent {
 // What came of a call: its answer, how many bytes of the table it changed, and whether the room past the bytes written
 // stayed.
 #[derive(Drop)]
+#[derive(Clone, Copy)]
 pub struct Outcome {
     pub answer: u64,
     pub changed: usize,
@@ -91,7 +92,7 @@ pub fn rounds(
         let opened = serves(table, book, room, l, ROUNDS, lent);
         let closed = serves(table, book, room, l, CLOSING, lent);
         if !opened || !closed {
-            bad = wrapping_add_usize(bad, 1);
+            bad = bad.wrapping_add(1);
         }
         k += 1;
     }

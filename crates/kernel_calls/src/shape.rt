@@ -19,8 +19,9 @@ pub const EVENT: usize = 8;
 // No command: the second event of a round.
 pub const CLOSING: usize = 9;
 
-pub fn command_of(l: &[u8]) -> usize {
+pub fn command_of(rt: &impl Print, l: &[u8]) -> usize {
     command_in(
+        rt,
         l,
         b"start,table n,room n,book p,poke np,rounds nnp,raw p,event nnnp",
         8,

@@ -28,7 +28,14 @@ fn begin(table: &mut [u8], book: &[u8], out: &mut [u8]) -> usize
     put_start(out, 0, number)
 }
 
-fn run(buf: &mut [u8], table: &mut [u8], book: &[u8], out: &mut [u8], who: &[u8])
+fn run(
+    rt: &(impl Input + Print + Eprint),
+    buf: &mut [u8],
+    table: &mut [u8],
+    book: &[u8],
+    out: &mut [u8],
+    who: &[u8],
+)
     requires { LogBuffers buf.old out.old }
     ensures { LogRan book.now buf.old table.old out.old buf.new table.new out.new }
 {
@@ -42,9 +49,9 @@ fn run(buf: &mut [u8], table: &mut [u8], book: &[u8], out: &mut [u8], who: &[u8]
     };
     let mut left = TURNS;
     while left > 0 {
-        p = turn(buf, table, book, out, p, who);
+        p = turn(rt, buf, table, book, out, p, who);
         let filled = p.filled;
-        if !flush(out, filled, who) {
+        if !flush(rt, out, filled, who) {
             return;
         }
         if p.done {
@@ -55,15 +62,22 @@ fn run(buf: &mut [u8], table: &mut [u8], book: &[u8], out: &mut [u8], who: &[u8]
 }
 
 // The whole log, of a book and of standard input.
-pub fn log(buf: &mut [u8], table: &mut [u8], book: &[u8], out: &mut [u8], who: &[u8])
+pub fn log(
+    rt: &(impl Input + Print + Eprint),
+    buf: &mut [u8],
+    table: &mut [u8],
+    book: &[u8],
+    out: &mut [u8],
+    who: &[u8],
+)
     requires { LogBuffers buf.old out.old }
     ensures { Logged book.now buf.old table.old out.old buf.new table.new out.new }
 {
     let said = begin(table, book, out);
     if said == 0 {
-        run(buf, table, book, out, who);
+        run(rt, buf, table, book, out, who);
         return;
     }
-    flush(out, said, who);
-    say_unsound(book, b"desklog: the start is refused");
+    flush(rt, out, said, who);
+    say_unsound(rt, book, b"desklog: the start is refused");
 }

@@ -25,6 +25,7 @@ fn moved(p: Place, given: Batch) -> Place
 }
 
 pub fn turn(
+    rt: &(impl Input + Eprint),
     buf: &mut [u8],
     table: &mut [u8],
     book: &[u8],
@@ -41,7 +42,7 @@ pub fn turn(
     let ready = given.ready;
     if ready.count == 0 {
         if !ready.last {
-            return refill(buf, p, who);
+            return refill(rt, buf, p, who);
         }
         return moved(p, given);
     }

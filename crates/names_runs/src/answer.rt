@@ -19,39 +19,39 @@ fn holds(text: &[u8], beside: &[u8], c: usize) -> bool {
 }
 
 // The bytes beside a name, once it is folded into them.
-fn into(to: &mut [u8], name: &[u8], label: &[u8]) {
+fn into(rt: &impl Print, to: &mut [u8], name: &[u8], label: &[u8]) {
     if to.len() < name.len() {
-        say::refused(label);
+        say::refused(rt, label);
         return;
     }
     into::fold_into(to, name);
-    say::told(label, to);
+    say::told(rt, label, to);
 }
 
 // The number given back and the part of the host, or a hyphen for an empty one. The number lent holds `held` before.
-fn suffix(host: &[u8], book: &[u8], held: usize, label: &[u8]) {
+fn suffix(rt: &impl Print, host: &[u8], book: &[u8], held: usize, label: &[u8]) {
     let mut why = (held % 256) as u8;
     let part = names::suffix(host, book, &mut why);
-    say::text(label);
-    say::spaced(wide(why));
-    say::byte(b' ');
+    say::text(rt, label);
+    say::spaced(rt, wide(why));
+    say::byte(rt, b' ');
     if part.len() == 0 {
-        say::byte(b'-');
+        say::byte(rt, b'-');
     }
-    say::line(part);
+    say::line(rt, part);
 }
 
-pub fn answer(beside: &mut [u8], text: &[u8], q: &[u8], c: usize, label: &[u8]) {
+pub fn answer(rt: &impl Print, beside: &mut [u8], text: &[u8], q: &[u8], c: usize, label: &[u8]) {
     let first = byte_at(text, 0);
     match c {
-        FOLD => say::count(label, wide(fold::fold(first))),
-        INTO => into(beside, text, label),
-        SEAT => seat::say(beside, first, label),
+        FOLD => say::count(rt, label, wide(fold::fold(first))),
+        INTO => into(rt, beside, text, label),
+        SEAT => seat::say(rt, beside, first, label),
         OWNER => {
-            say::text(label);
-            seat::say_owner(first, byte_at(text, 1), byte_at(text, 2));
+            say::text(rt, label);
+            seat::say_owner(rt, first, byte_at(text, 1), byte_at(text, 2));
         }
-        SUFFIX => suffix(text, beside, number_at(q, 1), label),
-        _ => say::test(label, holds(text, beside, c)),
+        SUFFIX => suffix(rt, text, beside, number_at(q, 1), label),
+        _ => say::test(rt, label, holds(text, beside, c)),
     }
 }

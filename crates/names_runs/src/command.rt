@@ -9,19 +9,19 @@ use runs::say;
 use runs::script::is_heading;
 
 // The bytes of a question, and what it asks of them and of the bytes beside them.
-fn ask(beside: &mut [u8], n: usize, q: &[u8], c: usize, label: &[u8]) {
+fn ask(rt: &impl Print, beside: &mut [u8], n: usize, q: &[u8], c: usize, label: &[u8]) {
     let first = match c {
         SUFFIX => 2,
         _ => 1,
     };
-    let mut room = io::buffer();
+    let mut room = [0u8; 4096];
     let len = put_words(&mut room, 0, q, first);
     let m = at_most(beside.len(), n);
-    answer(&mut beside[0..m], &room[0..len], q, c, label);
+    answer(rt, &mut beside[0..m], &room[0..len], q, c, label);
 }
 
 // A line of the script, and how many bytes stand beside the questions after it.
-fn obey(beside: &mut [u8], n: usize, l: &[u8]) -> usize {
+fn obey(rt: &impl Print, beside: &mut [u8], n: usize, l: &[u8]) -> usize {
     if is_heading(l) {
         return n;
     }
@@ -29,7 +29,7 @@ fn obey(beside: &mut [u8], n: usize, l: &[u8]) -> usize {
     let c = command_of(q);
     match c {
         0 => {
-            say::bad(l);
+            say::bad(rt, l);
             n
         }
         WITH => put_words(beside, 0, q, 1),
@@ -43,19 +43,19 @@ fn obey(beside: &mut [u8], n: usize, l: &[u8]) -> usize {
             n
         }
         _ => {
-            ask(beside, n, q, c, part(l, b'|', 1));
+            ask(rt, beside, n, q, c, part(l, b'|', 1));
             n
         }
     }
 }
 
 // Each line of the script in turn.
-pub fn run(script: &[u8], beside: &mut [u8]) {
+pub fn run(rt: &impl Print, script: &[u8], beside: &mut [u8]) {
     let mut n = 0;
     let lines = count(script, b'\n');
     let mut k = 0;
     while k < lines {
-        n = obey(beside, n, part(script, b'\n', k));
+        n = obey(rt, beside, n, part(script, b'\n', k));
         k += 1;
     }
 }

@@ -4,32 +4,32 @@ use terms::byte::wide;
 use terms::order::Letting;
 
 // No sound book lets a seat past the eighth, and that has no owner.
-pub fn say_owner(seat: u8, tenant: u8, options: u8) {
-    say::text(b" owner");
+pub fn say_owner(rt: &impl Print, seat: u8, tenant: u8, options: u8) {
+    say::text(rt, b" owner");
     if seat <= 8 {
-        say::spaced(wide(terms::order::owner_of(seat, tenant, options)));
+        say::spaced(rt, wide(terms::order::owner_of(seat, tenant, options)));
     }
-    say::end();
+    say::end(rt);
 }
 
-fn say_letting(l: Letting, seat: u8, label: &[u8]) {
+fn say_letting(rt: &impl Print, l: Letting, seat: u8, label: &[u8]) {
     match l {
-        Letting::NotLet => say::told(label, b"not let"),
+        Letting::NotLet => say::told(rt, label, b"not let"),
         Letting::Let { tenant, options } => {
-            say::text(label);
-            say::text(b" tenant");
-            say::spaced(wide(tenant));
-            say::text(b" separate");
-            say::spaced(wide(options));
-            say_owner(seat, tenant, options);
+            say::text(rt, label);
+            say::text(rt, b" tenant");
+            say::spaced(rt, wide(tenant));
+            say::text(rt, b" separate");
+            say::spaced(rt, wide(options));
+            say_owner(rt, seat, tenant, options);
         }
     }
 }
 
-pub fn say(book: &[u8], seat: u8, label: &[u8]) {
+pub fn say(rt: &impl Print, book: &[u8], seat: u8, label: &[u8]) {
     if names::book::is_sound(book) {
-        say_letting(names::book::letting_of(book, seat), seat, label);
+        say_letting(rt, names::book::letting_of(book, seat), seat, label);
         return;
     }
-    say::told(label, b"unsound");
+    say::told(rt, label, b"unsound");
 }

@@ -2,7 +2,8 @@
 use crate::out::put_out;
 use crate::say::say;
 use crate::version::put_version;
-use check::same;
+use std::env::FillError;
+use std::rt::Env;
 
 // What is left to do.
 #[derive(Clone, Copy)]
@@ -15,23 +16,30 @@ enum Task {
     Nothing,
 }
 
-fn asked(who: &[u8]) -> Task {
-    let count = os::arg_count();
-    if count < 2 {
+// There is an argument at this place.
+fn is_argument(rt: &impl Env, place: usize) -> bool {
+    let mut word = [0u8; 1];
+    !matches!(rt.arg(place, &mut word), Err(FillError::NotPresent))
+}
+
+fn asked(rt: &(impl Print + Eprint + Env), who: &[u8]) -> Task {
+    if !is_argument(rt, 1) {
         return Task::Work;
     }
-    if count == 2 {
+    if !is_argument(rt, 2) {
         let mut word = [0u8; 16];
-        let n = os::arg(1, &mut word);
-        if same(&word[..n], b"--help") {
-            return Task::Help;
-        }
-        if same(&word[..n], b"--version") {
-            put_version(who);
-            return Task::Nothing;
+        let n = rt.arg(1, &mut word).unwrap_or(0);
+        match &word[..n] {
+            b"--help" => return Task::Help,
+            b"--version" => {
+                put_version(rt, who);
+                return Task::Nothing;
+            }
+            _ => {}
         }
     }
     say(
+        rt,
         who,
         b"takes one argument at most: --help explains its use, --version tells its version",
     );
@@ -39,11 +47,11 @@ fn asked(who: &[u8]) -> Task {
 }
 
 // Whether there was an argument, which is all that is answered then; `help` explains the program's use.
-pub fn answered(who: &[u8], help: &[u8]) -> bool {
-    match asked(who) {
+pub fn answered(rt: &(impl Print + Eprint + Env), who: &[u8], help: &[u8]) -> bool {
+    match asked(rt, who) {
         Task::Work => false,
         Task::Help => {
-            put_out(help, who);
+            put_out(rt, help, who);
             true
         }
         Task::Nothing => true,

@@ -2,7 +2,7 @@
 ghost use Rattle.std.specs.Prelude.{◌≡◌, ◌+◌, ◌-◌, ◌≤◌, length, take, drop};
 
 use crate::say::say_failed;
-use libc::STDIN_FILENO;
+use std::io::Read;
 
 // Moves the bytes from place up to have to the front.
 pub fn shift(buf: &mut [u8], place: usize, have: usize)
@@ -19,14 +19,16 @@ pub fn shift(buf: &mut [u8], place: usize, have: usize)
 
 // Reads once behind the first bytes, and gives how many came: none at the end of the stream, or where the read fails, which
 // standard error is told.
-pub fn fill(buf: &mut [u8], have: usize, who: &[u8]) -> usize
+pub fn fill(rt: &(impl Input + Eprint), buf: &mut [u8], have: usize, who: &[u8]) -> usize
     requires { have ≤ length buf.old }
     ensures { (have + result ≤ length buf.old) × (take have buf.new ≡ take have buf.old) }
 {
-    let got = libc::read(STDIN_FILENO, &mut buf[have..]);
-    if got < 0 {
-        say_failed(who, b"standard input cannot be read");
-        return 0;
+    let mut input = rt.reader();
+    match input.read(&mut buf[have..]) {
+        Ok(got) => got,
+        Err(why) => {
+            say_failed(rt, who, b"standard input cannot be read", &why);
+            0
+        }
     }
-    io::count(got, &buf[have..])
 }

@@ -1,6 +1,7 @@
 // What the programs that read an order book and a stream share: book.bin, and standard input, a buffer at a time; standard output;
 // what they say to a person; the arguments.
 #![tactic(auto)]
+
 pub mod argument;
 pub mod book;
 mod buffer;
@@ -8,3 +9,4 @@ pub mod out;
 pub mod place;
 pub mod say;
 mod version;
+mod words;

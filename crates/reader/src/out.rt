@@ -2,20 +2,21 @@
 ghost use Rattle.std.specs.Prelude.{◌≤◌, length};
 
 use crate::say::say_failed;
-use libc::STDOUT_FILENO;
 
 // All of a text. False where standard output takes no more.
-pub fn put_out(text: &[u8], who: &[u8]) -> bool {
-    if io::write_all(STDOUT_FILENO, text) {
-        return true;
+pub fn put_out(rt: &(impl Print + Eprint), text: &[u8], who: &[u8]) -> bool {
+    match rt.write_all(text) {
+        Ok(()) => true,
+        Err(why) => {
+            say_failed(rt, who, b"standard output cannot be written", &why);
+            false
+        }
     }
-    say_failed(who, b"standard output cannot be written");
-    false
 }
 
 // The front of a room. False where standard output takes no more.
-pub fn flush(out: &[u8], filled: usize, who: &[u8]) -> bool
+pub fn flush(rt: &(impl Print + Eprint), out: &[u8], filled: usize, who: &[u8]) -> bool
     requires { filled ≤ length out.now }
 {
-    put_out(&out[..filled], who)
+    put_out(rt, &out[..filled], who)
 }

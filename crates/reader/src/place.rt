@@ -20,7 +20,7 @@ pub struct Place {
 }
 
 // Reads once behind what is unread. A read that fails counts as the end of the stream, and is told.
-pub fn refill(buf: &mut [u8], p: Place, who: &[u8]) -> Place
+pub fn refill(rt: &(impl Input + Eprint), buf: &mut [u8], p: Place, who: &[u8]) -> Place
     requires { Sound p (length buf.old) }
     ensures { Filled buf.old p buf.new result }
 {
@@ -28,7 +28,7 @@ pub fn refill(buf: &mut [u8], p: Place, who: &[u8]) -> Place
     let have = p.have;
     let unread = have - place;
     shift(buf, place, have);
-    let got = fill(buf, unread, who);
+    let got = fill(rt, buf, unread, who);
     Place {
         place: 0,
         have: unread + got,

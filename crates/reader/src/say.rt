@@ -1,17 +1,14 @@
 // What standard error is told, in lines that begin with who tells it.
-use libc::STDERR_FILENO;
+use crate::words::{Text, words_of};
+use std::io;
 
 // A line.
-pub fn say(who: &[u8], what: &[u8]) {
-    io::write_all(STDERR_FILENO, who);
-    io::write_all(STDERR_FILENO, b": ");
-    io::write_all(STDERR_FILENO, what);
-    io::write_all(STDERR_FILENO, b"\n");
+pub fn say(rt: &impl Eprint, who: &[u8], what: &[u8]) {
+    let _ = eprintln!(rt; "{}: {}", Text(who), Text(what));
 }
 
 // A line on a call of the system that has just failed: what failed, and the system's reason.
-pub fn say_failed(who: &[u8], what: &[u8]) {
-    io::write_all(STDERR_FILENO, who);
-    io::write_all(STDERR_FILENO, b": ");
-    os::fail(what);
+pub fn say_failed(rt: &impl Eprint, who: &[u8], what: &[u8], why: &io::Error) {
+    let words = words_of(why);
+    let _ = eprintln!(rt; "{}: {}: {}", Text(who), Text(what), Text(words.text()));
 }

@@ -2,8 +2,8 @@
 use crate::out::put_out;
 
 // A line on standard output, with the program's name.
-pub fn put_version(who: &[u8]) {
-    if put_out(who, who) {
-        put_out(b" 0.7.0\n", who);
+pub fn put_version(rt: &(impl Print + Eprint), who: &[u8]) {
+    if put_out(rt, who, who) {
+        put_out(rt, b" 0.7.0\n", who);
     }
 }

@@ -1,2 +1,3 @@
 -- What the contracts of this crate cite.
 pub mod Decimal
+pub mod Front

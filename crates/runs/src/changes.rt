@@ -37,32 +37,32 @@ pub fn count(old: &[u8], new: &[u8]) -> usize
 }
 
 // A line for the byte at a place, if it has changed.
-fn say_at(old: &[u8], new: &[u8], i: usize) {
+fn say_at(rt: &impl Print, old: &[u8], new: &[u8], i: usize) {
     if changed(old, new, i) == 0 {
         return;
     }
-    say::byte(b' ');
-    say::spaced(i);
-    say::spaced(wide(byte_at(old, i)));
-    say::spaced(wide(byte_at(new, i)));
-    say::end();
+    say::byte(rt, b' ');
+    say::spaced(rt, i);
+    say::spaced(rt, wide(byte_at(old, i)));
+    say::spaced(rt, wide(byte_at(new, i)));
+    say::end(rt);
 }
 
 // A line for each byte that has changed.
-pub fn say_each(old: &[u8], new: &[u8]) {
+pub fn say_each(rt: &impl Print, old: &[u8], new: &[u8]) {
     if count(old, new) == 0 {
-        say::line(b"  nothing changes");
+        say::line(rt, b"  nothing changes");
         return;
     }
     let mut i = 0;
     while i < new.len() {
-        say_at(old, new, i);
+        say_at(rt, old, new, i);
         i += 1;
     }
 }
 
-pub fn say_count(old: &[u8], new: &[u8]) {
-    say::byte(b' ');
-    say::spaced(count(old, new));
-    say::line(b" bytes change");
+pub fn say_count(rt: &impl Print, old: &[u8], new: &[u8]) {
+    say::byte(rt, b' ');
+    say::spaced(rt, count(old, new));
+    say::line(rt, b" bytes change");
 }

@@ -1,6 +1,6 @@
 // Bytes as lower-case hex, read and written.
 ghost use Rattle.std.specs.Prelude.{◌≤◌};
-ghost use Rattle.io.specs.Counts.{IsPrefixLen};
+ghost use Rattle.runs.specs.Front.{IsPrefixLen};
 
 use crate::say;
 use terms::byte::wide;
@@ -59,11 +59,9 @@ pub fn bytes_of(to: &mut [u8], w: &[u8]) -> usize
     w.len() / 2
 }
 
-pub fn say_bytes(s: &[u8]) {
-    let mut i = 0;
-    while i < s.len() {
-        io::print_hex(1, wide(s[i]) as u64, 2);
-        i += 1;
+pub fn say_bytes(rt: &impl Print, s: &[u8]) {
+    for b in s {
+        say::hexed(rt, *b);
     }
-    say::end();
+    say::end(rt);
 }

@@ -1,5 +1,6 @@
 // What the programs share that run a layer's boundaries.
 #![tactic(auto)]
+
 pub mod changes;
 pub mod dot;
 pub mod hexed;

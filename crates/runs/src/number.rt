@@ -12,6 +12,7 @@ pub enum Number {
 }
 
 // A number with one digit more; not beyond ten digits.
+#[tactic(auto, unfolding(crate::specs::Decimal::with_digit))]
 fn with_digit(n: usize, digit: u8) -> Number
     ensures { result ≡ with_digit n digit }
 {

@@ -5,10 +5,9 @@ ghost use Rattle.std.specs.Prelude.{◌≤◌, length};
 use crate::changes::byte_at;
 use crate::number::{is_number, value_of};
 use crate::parts::{count, part, word};
-use std::num::{wrapping_add_usize, wrapping_sub_usize};
 
 fn is_text(w: &[u8]) -> bool {
-    2 < w.len() && byte_at(w, 0) == b'"' && byte_at(w, wrapping_sub_usize(w.len(), 1)) == b'"'
+    2 < w.len() && byte_at(w, 0) == b'"' && byte_at(w, w.len().wrapping_sub(1)) == b'"'
 }
 
 fn is_repeated(w: &[u8]) -> bool {
@@ -27,7 +26,7 @@ fn width_of(w: &[u8]) -> usize {
 // How many bytes a word stands for; 0 if for none.
 fn count_of(w: &[u8]) -> usize {
     if is_text(w) {
-        return wrapping_sub_usize(w.len(), 2);
+        return w.len().wrapping_sub(2);
     }
     if is_number(w) {
         return 1;
@@ -55,7 +54,7 @@ fn digit_of(n: usize, after: usize) -> u8 {
 // Byte i of the count that a word stands for.
 fn byte_of(w: &[u8], count: usize, i: usize) -> u8 {
     if is_text(w) {
-        return byte_at(w, wrapping_add_usize(i, 1));
+        return byte_at(w, i.wrapping_add(1));
     }
     if is_number(w) {
         return digit_of(value_of(w), 0);
@@ -65,7 +64,7 @@ fn byte_of(w: &[u8], count: usize, i: usize) -> u8 {
     }
     digit_of(
         value_of(part(w, b':', 1)),
-        wrapping_sub_usize(count, wrapping_add_usize(i, 1)),
+        count.wrapping_sub(i.wrapping_add(1)),
     )
 }
 

@@ -5,12 +5,17 @@ use crate::number::is_number;
 use crate::parts::{count, part, word};
 use crate::pieces::are_bytes;
 
+// The same bytes.
+fn is_same(a: &[u8], b: &[u8]) -> bool {
+    a == b
+}
+
 pub fn is_cookie(w: &[u8]) -> bool {
-    check::same(w, b"cookie")
+    is_same(w, b"cookie")
 }
 
 fn is_mark(w: &[u8]) -> bool {
-    is_cookie(w) || check::same(w, b"document")
+    is_cookie(w) || is_same(w, b"document")
 }
 
 fn fits(w: &[u8], letter: u8) -> bool {
@@ -39,7 +44,7 @@ fn are_fit(l: &[u8], letters: &[u8]) -> bool {
 
 // The line has this shape.
 fn is(l: &[u8], shape: &[u8]) -> bool {
-    check::same(word(l, 0), word(shape, 0)) && are_fit(l, word(shape, 1))
+    is_same(word(l, 0), word(shape, 0)) && are_fit(l, word(shape, 1))
 }
 
 // The place, from 1, of the line's shape in a list of so many; 0 if it is not there.

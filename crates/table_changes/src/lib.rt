@@ -1,5 +1,6 @@
 // Updates of a table as a script writes them, each made only if nothing stands against it.
 #![tactic(auto)]
+
 pub mod change;
 pub mod seat;
 pub mod shape;

@@ -53,8 +53,9 @@ pub fn mark_at(l: &[u8], k: usize) -> Mark {
     Mark::Document
 }
 
-pub fn command_of(l: &[u8]) -> usize {
+pub fn command_of(rt: &impl Print, l: &[u8]) -> usize {
     command_in(
+        rt,
         l,
         b"sound,cut n,show nn,tab n,process n,with ns,row,slot n,count n,owner n,name n,keep,back,fresh h,poke nh,open ns,pick nn,close n,mark nnm,unmark nnm",
         20,

@@ -23,7 +23,7 @@ fn fresh_from(t: &mut [u8], book: &[u8]) -> usize {
 
 // From the book that a word is in hex; 6 if that is unsound.
 pub fn fresh(t: &mut [u8], w: &[u8]) -> usize {
-    let mut book = io::buffer();
+    let mut book = [0u8; 4096];
     let n = bytes_of(&mut book, w);
     fresh_from(t, &book[..n])
 }
