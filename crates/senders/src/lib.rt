@@ -1,5 +1,6 @@
 // Which rule an event asks for, and of which seat or tab.
 #![tactic(auto)]
+
 ghost use Rattle.std.specs.Prelude.{◌≡◌};
 ghost use Rattle.rules.specs.declared.event.Event.TheVariants.{Seat, Tab, Process, Network};
 ghost use Rattle.rules.specs.Sheet.{part, desk_at, seat_rule, tab_rule, event_rule};

@@ -13,12 +13,11 @@ returns-then-not-sound c =
     c.refused-then-not-sound.ensures
 
 pub serve-requires : goal.serve-requires
-serve-requires c =
-    (
-      record { sound = sym c.sound.ensures ∙ c.if-not-sound.false; roomy = c.if-out-lt-ROOM.false },
-      reading_in c.args.event.now _ (λ i. omega (arith, c.shared_slice_known-2-1.given i))
-          (sym c.read-reading.ensures ∙ c.in-Whole.is),
-    )
+serve-requires c = (
+  record { sound = sym c.sound.ensures ∙ c.if-not-sound.false; roomy = c.if-out-lt-ROOM.false },
+  reading_in c.args.event.now _ (λ i. omega (arith, c.shared_slice_known-2-1.given i))
+      (sym c.read-reading.ensures ∙ c.in-Whole.is),
+)
 
 pub returns-in-Malformed : goal.returns-in-Malformed
 returns-in-Malformed c =

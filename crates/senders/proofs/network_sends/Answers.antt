@@ -11,11 +11,10 @@ tab_of-place-requires c =
     (table_facts _ c.requires.0.sound).long
 
 pub document-requires : goal.document-requires
-document-requires c =
-    (
-      tab_there c.args.d.tab c.requires.0 c.tab_of-place.ensures c.in-At.is,
-      part_small _ _ c.part_of.ensures c.requires.1,
-    )
+document-requires c = (
+  tab_there c.args.d.tab c.requires.0 c.tab_of-place.ensures c.in-At.is,
+  part_small _ _ c.part_of.ensures c.requires.1,
+)
 
 pub returns-in-Nowhere : goal.returns-in-Nowhere
 returns-in-Nowhere c =
