@@ -8,13 +8,14 @@ use Rattle.rules.specs.Sheet.{start_of}
 use Rattle.logs.specs.Log.{events, joined, start_line, log_from, log_of, Reads}
 use Rattle.logs.specs.Laws.Stream.{events_nil}
 use Rattle.logs.specs.Laws.Parted as parts
-use Rattle.logs.specs.Rule.Parted.{Alone, Parted, Laid}
+use Rattle.logs.specs.Log.{Alone, Parted, Laid}
 use Rattle.logs.specs.Laws.Laid.{parted_laid, parted_frames, parted_sized, frames_before, frames_all}
-use Rattle.logs.specs.Laws.Reads as readers
-use Rattle.logs.specs.Laws.Reads.{stream_log, log_started, log_refused}
+use Rattle.logs.proofs.Readers as readers
+use Rattle.logs.proofs.Readers.{stream_log}
+use Rattle.logs.specs.Laws.Reads.{log_started, log_refused}
 use Rattle.logs.specs.Laws.Books.{unsound_log, no_book}
 use Rattle.logs.specs.Laws.Serves as servers
-use Rattle.logs.specs.Rule.Reading.{Serves, ServesSome}
+use Rattle.logs.specs.Log.{Serves, ServesSome}
 
 -- ---- the events of a stream
 
@@ -95,7 +96,7 @@ pub record Done (b held : List ℕ) (n : ℕ) (t : List ℕ) (cs : List (List �
 pub reads_exist : (b held : List ℕ) (n : ℕ) (t : List ℕ) (cs : List (List ℕ)) → Done b held n t cs
 reads_exist b held n t cs =
     let d = servers.serves_exist 1 b held n t cs (omega arith) in
-    record { text = d.text; reads = servers.serves_reads d.way }
+    record { text = d.text; reads = readers.serves_reads d.way }
 
 -- So it is by a reader that gives the kernel what is ready, k events at most at once, and reads on only where nothing is ready;
 pub serves_exist : (k : ℕ) (b held : List ℕ) (n : ℕ) (t : List ℕ) (cs : List (List ℕ)) → 0 < k → ServesSome k b held false n t cs
@@ -104,4 +105,4 @@ serves_exist k b held n t cs h = servers.serves_exist k b held n t cs h
 -- and such a reader is one of those above.
 pub serves_reads : {k : ℕ} {b held : List ℕ} {ended : Bool} {n : ℕ} {t : List ℕ} {more : List (List ℕ)} {x : List ℕ}
     → Serves k b held ended n t more x → Reads b held ended n t more x
-serves_reads r = servers.serves_reads r
+serves_reads r = readers.serves_reads r
