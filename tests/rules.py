@@ -1,6 +1,7 @@
 #!/usr/bin/env python3
 """What the pages cite stands where they say: docs/RULES.md, docs/TRUST.md and README.md held to the definitions and theorems below
-crates/*/specs; the rules' numbering; their layouts and numbers held to the definition of the layout and to the C header.
+crates; the rules' numbering; their layouts and numbers held to the definition of the layout and to the C header; and no crate opens
+the definitions of the rule sheet but its own.
 
 usage: tests/rules.py
 
@@ -47,7 +48,8 @@ def cited(text):
     """Every definition and theorem stands in its file."""
     text = line_of(text)
     for names, crate, path in CITED.findall(text):
-        file = ROOT / f'crates/{crate}/specs/{path}.antt'
+        specs, proofs = (ROOT / f'crates/{crate}/{part}/{path}.antt' for part in ('specs', 'proofs'))
+        file = proofs if proofs in SPECS else specs
         check(f'{RULES}: {shown([file])} is not there', file in SPECS)
         for name in re.findall(rf'`({WORD})`', names):
             stands(RULES, name, [file] if file in SPECS else [])
@@ -137,10 +139,21 @@ def promised(text):
     check(f'{README} cites theorems', len(names) > 20, len(names))
 
 
+# ---- the rule sheet's definitions
+
+def shut():
+    """Other crates name the rule sheet's definitions where these are passed on shut, and not where they could be opened."""
+    opened = [path for end in ('antt', 'rt') for part in ('src', 'specs', 'proofs') for path in ROOT.glob(f'crates/*/{part}/**/*.{end}')
+              if 'Rattle.rules.specs.Rule.' in read(path) or 'Rattle.rules.specs.Held.' in read(path)]
+    check('the crate rules opens its definitions, and no other does',
+          opened and {path.relative_to(ROOT).parts[1] for path in opened} == {'rules'}, shown(opened))
+
+
 for part in (numbered, cited, laid_out, in_header, example):
     part(read(RULES))
 reading(section(read(TRUST), 'In reading order'))
 for title in ('What is proved beyond the functions', 'Laws that the layers cite'):
     theorems(section(read(TRUST), title))
 promised(section(read(README), 'What is promised'))
+shut()
 closing()

@@ -1,4 +1,4 @@
-"""What the files below crates/*/specs define, and what a page cites of it, for the tests of pages."""
+"""What the definitions and theorems below crates define, and what a page cites of it, for the tests of pages."""
 import functools
 import pathlib
 import re
@@ -6,7 +6,9 @@ import re
 from checks import check
 
 ROOT = pathlib.Path(__file__).resolve().parent.parent
-SPECS = sorted(ROOT.glob('crates/*/specs/**/*.antt'))
+# The files of specs, and those of proofs but what answers the checker about a function.
+SPECS = sorted([*ROOT.glob('crates/*/specs/**/*.antt'),
+                *(path for path in ROOT.glob('crates/*/proofs/**/*.antt') if path.stem not in ('Answers', 'Invariants', 'Proof'))])
 WORD = r'[^\s`(){}:]+'
 
 
@@ -78,7 +80,7 @@ def places_in(who, text, crate=''):
 
 
 def files_in(who, text, crate=''):
-    """The files of specs that a text names: by their paths, and below a folder."""
+    """The files of definitions and theorems that a text names: by their paths, and below a folder."""
     return [file for place in places_in(who, text, crate) for file in SPECS if file == place or place in file.parents]
 
 

@@ -34,13 +34,13 @@ CONTRACT = re.compile(r'\bfn (\w+)(?:<[^>]*>)?\([^)]*\)(?: -> [^\n]*)?((?:\n    
 
 @functools.cache
 def file_of(module):
-    """The file of a module: of a crate's specs, or of a type that its source declares; None for the toolchain's."""
-    found = re.fullmatch(r'Rattle\.(\w+)\.specs\.(.+)', module)
+    """The file of a module: of a crate's specs or proofs, or of a type that its source declares; None for the toolchain's."""
+    found = re.fullmatch(r'Rattle\.(\w+)\.(specs|proofs)\.(.+)', module)
     if not found:
         return None
-    crate, path = found.groups()
+    crate, part, path = found.groups()
     declared = re.match(r'declared\.(\w+)\.', path)
-    return ROOT / 'crates' / crate / (f'src/{declared.group(1)}.rt' if declared else f'specs/{path.replace(".", "/")}.antt')
+    return ROOT / 'crates' / crate / (f'src/{declared.group(1)}.rt' if declared else f'{part}/{path.replace(".", "/")}.antt')
 
 
 @functools.cache

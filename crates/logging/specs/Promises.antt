@@ -4,7 +4,7 @@ use Rattle.std.proofs.Common.{true≢false, sym, ap, ◌∙◌}
 use Rattle.rules.specs.Sheet.{start_of}
 use Rattle.logs.specs.Log.{events, joined, log_from, table_after, log_of, Reads}
 use Rattle.logs.specs.Inner.{ready}
-use Rattle.logs.specs.Promises.{whole_log}
+use Rattle.logs.proofs.Promises.{whole_log}
 use Rattle.logs.specs.Laws.Stream.{joined_none}
 use Rattle.logs.specs.Laws.Reads.{log_started}
 use Rattle.logs.specs.Laws.Chunk.{joined_append}

@@ -8,8 +8,8 @@
 --   Laid     the events laid end to end again, how long they are, frames that are read as they were laid
 --   Ready    ready-whole, ready-cut, ready-few: how many events are ready
 --   Taken    ready-first, ready-all: those that are ready are the first of the stream's events, and when they are all
---   Reads    log-append, reads-log: the log of a stream that comes in chunks
---   Serves   a reader in the order of the program
+--   Reads    log_append, log_started: the log of one list of events after another, of a start
+--   Serves   a reader in the order of the program comes to the end of every stream
 --   Chunk    joined-then, chunk-empty, chunk-some: what reads brought, chunk by chunk
 --   Books    unsound-log, no-book: a book of a length that no sound book has
 --   Holding  answer-held, answer-lines: what a step's answer gives, and the lines written from it

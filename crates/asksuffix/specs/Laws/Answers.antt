@@ -1,7 +1,7 @@
 -- The answers to a stream, host by host, and what a turn says of them. Assumes nothing.
 use Rattle.std.specs.Prelude.{ℕ, ◌≡◌, true, false, List, [], ◌++◌, length, take, drop}
 use Rattle.std.proofs.Common.{sym, ap, ap₂, ◌∙◌, true≢false, append-nil, append_assoc, arith, length-drop}
-use Rattle.rules.specs.Laws.Over.{over_front}
+use Rattle.rules.proofs.Laws.Over.{over_front}
 use Rattle.logs.specs.Log.{joined}
 use Rattle.logs.specs.Laws.Stream.{joined_none}
 use Rattle.logs.specs.Laws.Chunk.{joined_then}

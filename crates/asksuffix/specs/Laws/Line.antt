@@ -9,7 +9,7 @@ use Rattle.logs.specs.Log.{decimal, payload}
 use Rattle.rules.specs.Inner.{Wrote}
 use Rattle.logs.specs.Laws.Digits.{decimal_one}
 use Rattle.logs.specs.Laws.Bound.{payload_none, payload_some}
-use Rattle.rules.specs.Laws.Wrote.{wrote_is, wrote_three}
+use Rattle.rules.proofs.Laws.Wrote.{wrote_is, wrote_three}
 use Rattle.asksuffix.specs.Rule.Answers.{most_text, answer_line}
 
 -- ---- the question's answer

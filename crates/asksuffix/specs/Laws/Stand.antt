@@ -7,7 +7,7 @@ use Rattle.std.proofs.Common.{ap₂, ◌∙◌, subst, arith}
 use mathlib.Core.List.{List, [], ◌++◌, append-nil}
 use Rattle.std.proofs.Math.ListN.{length, drop, length-drop}
 use Rattle.rules.specs.Sheet.{over}
-use Rattle.rules.specs.Laws.Over.{length_over}
+use Rattle.rules.proofs.Laws.Over.{length_over}
 use Rattle.logs.specs.Log.{chunk}
 use Rattle.logs.specs.Laws.Chunk.{chunk_empty}
 use Rattle.reader.specs.Held.{held, came}

@@ -1,5 +1,5 @@
 -- The number and the part are the definition's. Assumes nothing.
-use Rattle.rules.specs.Steps.Read.{delivered_is}
+use Rattle.rules.proofs.Steps.Read.{delivered_is}
 use Rattle.events.proofs.delivery.Goals as goal
 
 pub returns : goal.returns

@@ -1,5 +1,5 @@
 -- The three tests of a size, in the definition's order. Assumes nothing.
-use Rattle.rules.specs.Steps.Read.{sized_cut, sized_over, sized_is}
+use Rattle.rules.proofs.Steps.Read.{sized_cut, sized_over, sized_is}
 use Rattle.events.proofs.is_sized.Goals as goal
 
 pub returns-then-e-lt-HEAD : goal.returns-then-e-lt-HEAD

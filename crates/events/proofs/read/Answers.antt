@@ -1,6 +1,6 @@
 -- Sized bytes have a head, so that party, id and tag are there to be read. Assumes nothing.
 use Rattle.std.proofs.Common.{arith}
-use Rattle.rules.specs.Steps.Read.{sized_head, reading_unfit, reading_is}
+use Rattle.rules.proofs.Steps.Read.{sized_head, reading_unfit, reading_is}
 use Rattle.events.proofs.read.Goals as goal
 
 pub returns-then-not-is_sized : goal.returns-then-not-is_sized

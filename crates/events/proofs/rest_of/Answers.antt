@@ -1,5 +1,5 @@
 -- The part is the definition's. Assumes nothing.
-use Rattle.rules.specs.Steps.Read.{rest_is}
+use Rattle.rules.proofs.Steps.Read.{rest_is}
 use Rattle.events.proofs.rest_of.Goals as goal
 
 pub returns : goal.returns

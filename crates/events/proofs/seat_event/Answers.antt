@@ -1,5 +1,5 @@
 -- The tag decides, and for a key and a mouse the size; the definition asks in the same order. Assumes nothing.
-use Rattle.rules.specs.Steps.Read.{key_unfit, key, mouse_unfit, mouse, opens, seat_unknown}
+use Rattle.rules.proofs.Steps.Read.{key_unfit, key, mouse_unfit, mouse, opens, seat_unknown}
 use Rattle.events.proofs.seat_event.Goals as goal
 
 pub returns-then-n-ne1 : goal.returns-then-n-ne1

@@ -1,5 +1,5 @@
 -- The party decides; a result and a document have the same tag and the same least size. Assumes nothing.
-use Rattle.rules.specs.Steps.Read.{by_seat, by_tab, by_unfit, by_process, by_network, by_unknown}
+use Rattle.rules.proofs.Steps.Read.{by_seat, by_tab, by_unfit, by_process, by_network, by_unknown}
 use Rattle.events.proofs.sent_event.Goals as goal
 
 pub returns-then-party-eq1 : goal.returns-then-party-eq1

@@ -1,5 +1,5 @@
 -- The size decides; the port and the host are the definition's. Assumes nothing.
-use Rattle.rules.specs.Steps.Read.{socket_unfit, socket}
+use Rattle.rules.proofs.Steps.Read.{socket_unfit, socket}
 use Rattle.events.proofs.socket_event.Goals as goal
 
 pub returns-then-n-lt2 : goal.returns-then-n-lt2

@@ -1,6 +1,6 @@
 -- A payload without its first byte is shorter than any length says; else that byte decides. Assumes nothing.
 use Rattle.std.proofs.Common.{arith, refl}
-use Rattle.rules.specs.Steps.Read.{store_unfit, store}
+use Rattle.rules.proofs.Steps.Read.{store_unfit, store}
 use Rattle.events.proofs.store_event.Goals as goal
 
 pub returns-then-n-lt1 : goal.returns-then-n-lt1

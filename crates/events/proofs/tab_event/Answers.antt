@@ -1,5 +1,5 @@
 -- The tag decides, and for a display the size; sockets and stores are read by functions of their own. Assumes nothing.
-use Rattle.rules.specs.Steps.Read.{display_unfit, display, url, retrieve, tab_unknown}
+use Rattle.rules.proofs.Steps.Read.{display_unfit, display, url, retrieve, tab_unknown}
 use Rattle.events.proofs.tab_event.Goals as goal
 
 pub returns-then-n-ne12 : goal.returns-then-n-ne12

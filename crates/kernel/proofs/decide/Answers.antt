@@ -1,7 +1,7 @@
 -- The refusals 1, 2 and 3 in this order; an event that is read has its parts in its bytes. Assumes nothing.
 use Rattle.std.proofs.Common.{arith, sym, ◌∙◌}
-use Rattle.rules.specs.Laws.Read.{reading_in}
-use Rattle.rules.specs.Steps.Step.{room_small, table_unsound, event_malformed, event_served}
+use Rattle.rules.proofs.Laws.Read.{reading_in}
+use Rattle.rules.proofs.Steps.Step.{room_small, table_unsound, event_malformed, event_served}
 use Rattle.kernel.proofs.decide.Goals as goal
 
 pub returns-then-out-lt-ROOM : goal.returns-then-out-lt-ROOM

@@ -1,5 +1,5 @@
 -- The length first, and then the book. Assumes nothing.
-use Rattle.rules.specs.Steps.Step.{start_long, start_book, start_done}
+use Rattle.rules.proofs.Steps.Step.{start_long, start_book, start_done}
 use Rattle.kernel.proofs.stewlattice_start.Goals as goal
 
 pub returns-then-not-long : goal.returns-then-not-long

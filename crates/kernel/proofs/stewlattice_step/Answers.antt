@@ -1,6 +1,6 @@
 -- The answer is what was decided, packed. Assumes nothing.
 use Rattle.std.proofs.Common.{arith}
-use Rattle.rules.specs.Steps.Step.{step_packed}
+use Rattle.rules.proofs.Steps.Step.{step_packed}
 use Rattle.kernel.proofs.stewlattice_step.Goals as goal
 
 pub returns : goal.returns

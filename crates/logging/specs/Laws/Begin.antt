@@ -7,10 +7,10 @@ use Rattle.std.proofs.Math.Nat.{zero-add}
 use Rattle.std.proofs.Math.ListN.{length}
 use Rattle.terms.specs.Laws.Bools.{cases}
 use Rattle.rules.specs.Sheet.{start_of, number_in, Started, over}
-use Rattle.rules.specs.Laws.Over.{over_nothing, over_front}
-use Rattle.rules.specs.Promises.Step.{start_read}
+use Rattle.rules.proofs.Laws.Over.{over_nothing, over_front}
+use Rattle.rules.proofs.Promises.Step.{start_read}
 use Rattle.logs.specs.Log.{start_line, log_of}
-use Rattle.logs.specs.Promises.{refused_log}
+use Rattle.logs.proofs.Promises.{refused_log}
 use Rattle.rules.specs.Inner.{Wrote}
 use Rattle.logs.specs.Laws.Bound.{length_start, start_some}
 use Rattle.logging.specs.Begin.{start_text, Begun}

@@ -2,7 +2,7 @@
 use Rattle.std.specs.Prelude.{ℕ, ◌+◌, ◌*◌, ◌≤◌, Bool, true, ◌≡◌, refl, List, length}
 use Rattle.std.proofs.Common.{sym, arith}
 use Rattle.rules.specs.Sheet.{over}
-use Rattle.rules.specs.Laws.Over.{length_over}
+use Rattle.rules.proofs.Laws.Over.{length_over}
 use Rattle.logs.specs.Log.{joined, log_from, table_after}
 use Rattle.logs.specs.Inner.{most_text, taken, ready, left}
 use Rattle.reader.specs.Held.{Sound, held}

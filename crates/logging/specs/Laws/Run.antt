@@ -3,7 +3,7 @@
 use Rattle.std.specs.Prelude.{ℕ, ◌+◌, ◌-◌, ◌*◌, ◌≤◌, ◌<◌, false, ◌≡◌, refl, ◌≢◌, List, [], ◌++◌, length, take}
 use Rattle.std.proofs.Common.{◌∙◌}
 use native.Mathlib.Omega.{arith}
-use Rattle.rules.specs.Laws.Start.{start_starts}
+use Rattle.rules.proofs.Laws.Start.{start_starts}
 use Rattle.logs.specs.Log.{chunk}
 use Rattle.reader.specs.Held.{outset, Sound, came}
 use Rattle.reader.specs.Laws.Past.{outset_sound}

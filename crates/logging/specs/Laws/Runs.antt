@@ -7,7 +7,7 @@ use Rattle.terms.specs.Laws.Bools.{cases}
 use Rattle.logs.specs.Inner.{ready}
 use Rattle.logs.specs.Laws.Chunk.{chunk_empty, chunk_some}
 use Rattle.logs.specs.Log.{Serves, reads, closes, serves, quits}
-use Rattle.logs.specs.Promises.{serves_exist}
+use Rattle.logs.proofs.Promises.{serves_exist}
 use Rattle.logging.specs.Turn.{most_events, LogBuffers}
 use Rattle.logging.specs.Turns.{more}
 use Rattle.logging.specs.Laws.Turn.{waits}

@@ -5,7 +5,7 @@ use Rattle.std.proofs.Common.{◌∙◌, true≢false, arith}
 use mathlib.Core.List.{List}
 use Rattle.std.proofs.Math.ListN.{take, drop}
 use Rattle.terms.specs.Laws.Bools.{cases}
-use Rattle.rules.specs.Laws.Over.{over_front, over_past}
+use Rattle.rules.proofs.Laws.Over.{over_front, over_past}
 use Rattle.logs.specs.Log.{whole, oversized, joined, log_from}
 use Rattle.logs.specs.Inner.{most_text, taken, cut, ready}
 use Rattle.logs.specs.Laws.First.{rest_small}

@@ -7,8 +7,8 @@ use Rattle.logs.specs.Rule.Line.{action_line, action_lines}
 use Rattle.logs.specs.Rule.Written.{Holds}
 use Rattle.rules.specs.Sheet.{frame_at, frames_of}
 use Rattle.rules.specs.Inner.{Wrote}
-use Rattle.rules.specs.Laws.Back.{frame_at_lem, frames_none, frames_more}
-use Rattle.rules.specs.Laws.Wrote.{wrote_none, wrote_then, wrote_is}
+use Rattle.rules.proofs.Laws.Back.{frame_at_lem, frames_none, frames_more}
+use Rattle.rules.proofs.Laws.Wrote.{wrote_none, wrote_then, wrote_is}
 use Rattle.logs.specs.Laws.Bound.{length_action}
 use Rattle.logs.specs.Laws.Part.{from, from_is}
 

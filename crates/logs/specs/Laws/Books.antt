@@ -5,7 +5,7 @@ use Rattle.terms.specs.Names.{sound_book}
 use Rattle.terms.specs.Laws.Book.{sound_parts}
 use Rattle.fields.specs.Table.{table_bytes}
 use Rattle.rules.specs.Sheet.{start_of}
-use Rattle.rules.specs.Laws.Start.{start_starts}
+use Rattle.rules.proofs.Laws.Start.{start_starts}
 use Rattle.logs.specs.Rule.Line.{start_line}
 use Rattle.logs.specs.Rule.Log.{log_of}
 use Rattle.logs.specs.Laws.Reads.{log_refused}

@@ -3,7 +3,7 @@ use Rattle.std.specs.Prelude.{ℕ, ◌+◌, ◌*◌, ◌≤◌, ◌<◌, ◌≡�
 use Rattle.std.proofs.Common.{arith, length-append, ne_eqb}
 use Rattle.rules.specs.Sheet.{Frame, frames, Outcome}
 use Rattle.rules.specs.Inner.{size}
-use Rattle.rules.specs.Laws.Frame.{length_frames}
+use Rattle.rules.proofs.Laws.Frame.{length_frames}
 use Rattle.logs.specs.Rule.Line.{hex, number, payload, start_line, event_line, action_line, action_lines, lines}
 use Rattle.logs.specs.Laws.Digits.{length_decimal}
 use Rattle.logs.specs.Laws.Hex.{length_hex}

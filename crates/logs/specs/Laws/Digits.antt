@@ -3,7 +3,7 @@ use Rattle.std.specs.Prelude.{ℕ, zero, suc, ◌+◌, ◌-◌, ◌/◌, ◌%◌
 use Rattle.std.proofs.Common.{ap, sym, ◌∙◌, arith, length-append, lt-ltb, le-ltb}
 use Rattle.logs.specs.Rule.Line.{digits, decimal}
 use Rattle.rules.specs.Inner.{Wrote}
-use Rattle.rules.specs.Laws.Wrote.{wrote_none, wrote_then, wrote_is}
+use Rattle.rules.proofs.Laws.Wrote.{wrote_none, wrote_then, wrote_is}
 
 pub digits_none : (x : ℕ) → digits 0 x ≡ []
 unfolding digits

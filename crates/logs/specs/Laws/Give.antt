@@ -4,7 +4,7 @@ use Rattle.std.proofs.Math.Path.{ap, ap₂}
 use Rattle.std.proofs.Common.{subst, ◌∙◌, arith}
 use Rattle.std.proofs.Math.ListN.{length}
 use Rattle.rules.specs.Sheet.{Outcome, room_needed, step_of, actions_in, bytes_in, Stepped, over}
-use Rattle.rules.specs.Promises.Step.{ReadOut, step_few, step_room, step_narrow, step_answer}
+use Rattle.rules.proofs.Promises.Step.{ReadOut, step_few, step_room, step_narrow, step_answer}
 use Rattle.logs.specs.Rule.Stream.{first_bytes}
 use Rattle.logs.specs.Rule.Line.{lines}
 use Rattle.logs.specs.Rule.Log.{step}

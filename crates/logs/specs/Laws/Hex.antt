@@ -3,7 +3,7 @@ use Rattle.std.specs.Prelude.{ℕ, ◌+◌, ◌*◌, ◌/◌, ◌%◌, ◌≤◌
 use Rattle.std.proofs.Common.{ap, ap₂, sym, ◌∙◌, arith, add-one, length-set, take-suc, take_all, lt-ltb, le-ltb}
 use Rattle.logs.specs.Rule.Line.{hex_digit, hex}
 use Rattle.rules.specs.Inner.{Wrote}
-use Rattle.rules.specs.Laws.Wrote.{wrote_none, wrote_byte, wrote_then, wrote_is}
+use Rattle.rules.proofs.Laws.Wrote.{wrote_none, wrote_byte, wrote_then, wrote_is}
 
 pub hex_figure : (d : ℕ) → d < 10 → hex_digit d ≡ 48 + d
 unfolding hex_digit

@@ -2,8 +2,8 @@
 use Rattle.std.specs.Prelude.{ℕ, ◌≡◌, List, [], ◌∷◌, length}
 use Rattle.std.proofs.Common.{ap, arith, length-take}
 use Rattle.rules.specs.Sheet.{Frame, frames, AllNarrow, Outcome, bytes_in}
-use Rattle.rules.specs.Laws.Back.{narrow_front}
-use Rattle.rules.specs.Promises.Step.{ReadOut, frames_read}
+use Rattle.rules.proofs.Laws.Back.{narrow_front}
+use Rattle.rules.proofs.Promises.Step.{ReadOut, frames_read}
 use Rattle.logs.specs.Rule.Line.{lines}
 use Rattle.logs.specs.Rule.Written.{Holds, Holding, lines_of}
 

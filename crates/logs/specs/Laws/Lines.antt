@@ -7,8 +7,8 @@ use Rattle.logs.specs.Rule.Line.{decimal, hex, number, payload, event_line, acti
 use Rattle.logs.specs.Rule.Written.{lines_of}
 use Rattle.rules.specs.Sheet.{frame_at, frames_of, number_in, actions_in, bytes_in}
 use Rattle.rules.specs.Inner.{Wrote}
-use Rattle.rules.specs.Laws.Back.{frame_at_lem}
-use Rattle.rules.specs.Laws.Wrote.{wrote_is, wrote_then, wrote_three}
+use Rattle.rules.proofs.Laws.Back.{frame_at_lem}
+use Rattle.rules.proofs.Laws.Wrote.{wrote_is, wrote_then, wrote_three}
 
 -- ---- words
 

@@ -6,21 +6,13 @@ use mathlib.Core.List.{List, [], ◌∷◌, ◌++◌, nil≢cons}
 use Rattle.terms.specs.Laws.Bools.{cases}
 use Rattle.logs.specs.Rule.Stream.{whole, first_bytes, joined}
 use Rattle.logs.specs.Rule.Log.{table_after}
-use Rattle.logs.specs.Rule.Reading.{taken, one_more, ready, Reads, comes, ends, gives, stops}
+use Rattle.logs.specs.Rule.Reading.{taken, one_more, ready}
 use Rattle.logs.specs.Laws.First.{first_inside}
 use Rattle.logs.specs.Laws.Stream.{first_shorter, events_nil}
 use Rattle.logs.specs.Laws.Ready.{ready_whole, ready_cut, cut_ended}
 use Rattle.logs.specs.Laws.Taken.{ready_first}
 use Rattle.logs.specs.Rule.Reading.{left}
-use Rattle.logs.specs.Rule.Reading.{Serves, ServesSome, reads, closes, serves, quits}
-
--- it is a reader
-pub serves_reads : {k : ℕ} {b held : List ℕ} {ended : Bool} {n : ℕ} {t : List ℕ} {more : List (List ℕ)} {x : List ℕ}
-    → Serves k b held ended n t more x → Reads b held ended n t more x
-serves_reads (reads chunk e r) = comes chunk (serves_reads r)
-serves_reads (closes e r) = ends (serves_reads r)
-serves_reads {k} (serves m e r) = gives k (suc m) e (serves_reads r)
-serves_reads {k} (quits m e) = stops k m e
+use Rattle.logs.specs.Rule.Reading.{ServesSome, reads, closes, serves, quits}
 
 -- ---- to the end
 

@@ -3,8 +3,8 @@ use Rattle.std.specs.Prelude.{ℕ, zero, suc, ◌+◌, ◌*◌, ◌≤◌, ◌�
 use Rattle.std.proofs.Common.{sym, ap₂, ◌∙◌, append-nil, zero-add, add-zero, add-one, arith, length-append, length-drop, length-take-le}
 use Rattle.std.proofs.Math.Path.{ap}
 use Rattle.rules.specs.Sheet.{room_needed, over}
-use Rattle.rules.specs.Laws.Over.{over_nothing, over_over}
-use Rattle.rules.specs.Promises.Step.{step_few, step_room}
+use Rattle.rules.proofs.Laws.Over.{over_nothing, over_over}
+use Rattle.rules.proofs.Promises.Step.{step_few, step_room}
 use Rattle.logs.specs.Rule.Stream.{first_bytes, joined}
 use Rattle.logs.specs.Rule.Line.{lines}
 use Rattle.logs.specs.Rule.Log.{step, log_from, table_after}

@@ -1,5 +1,5 @@
 -- A key, the mouse or an open: each has its function and its rule. Assumes nothing.
-use Rattle.rules.specs.Steps.Serve.{part_small, seat_key, seat_mouse, seat_open}
+use Rattle.rules.proofs.Steps.Serve.{part_small, seat_key, seat_mouse, seat_open}
 use Rattle.senders.proofs.from_seat.Goals as goal
 
 pub pass-requires : goal.pass-requires

@@ -1,6 +1,6 @@
 -- Each of a tab's messages has its function and its rule. Assumes nothing.
-use Rattle.rules.specs.Steps.Serve.{part_small, host_small, store_small, tab_display, tab_socket, tab_url, tab_store}
-use Rattle.rules.specs.Steps.Serve.{tab_retrieve}
+use Rattle.rules.proofs.Steps.Serve.{part_small, host_small, store_small, tab_display, tab_socket, tab_url, tab_store}
+use Rattle.rules.proofs.Steps.Serve.{tab_retrieve}
 use Rattle.senders.proofs.from_tab.Goals as goal
 
 pub display-requires : goal.display-requires

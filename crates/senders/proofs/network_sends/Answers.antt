@@ -1,6 +1,6 @@
 -- A network id that is not 0 is refused 4, and a document for no live tab 10. Assumes nothing.
 use Rattle.fields.specs.Laws.Table.{table_facts}
-use Rattle.rules.specs.Steps.Serve.{part_small, tab_there, network_other, network_nowhere, network_served}
+use Rattle.rules.proofs.Steps.Serve.{part_small, tab_there, network_other, network_nowhere, network_served}
 use Rattle.senders.proofs.network_sends.Goals as goal
 
 pub returns-then-n-ne0 : goal.returns-then-n-ne0

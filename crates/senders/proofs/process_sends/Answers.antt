@@ -1,6 +1,6 @@
 -- A process that is not live is refused 4, and a result for no live tab 10. Assumes nothing.
 use Rattle.fields.specs.Laws.Table.{table_facts}
-use Rattle.rules.specs.Steps.Serve.{part_small, tab_there, process_dead, process_nowhere, process_served}
+use Rattle.rules.proofs.Steps.Serve.{part_small, tab_there, process_dead, process_nowhere, process_served}
 use Rattle.senders.proofs.process_sends.Goals as goal
 
 pub process_of-requires : goal.process_of-requires

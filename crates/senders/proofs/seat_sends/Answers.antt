@@ -1,6 +1,6 @@
 -- A seat that is not let is refused. Assumes nothing.
 use Rattle.fields.specs.Laws.Table.{table_facts}
-use Rattle.rules.specs.Steps.Serve.{seat_unlet, seat_served}
+use Rattle.rules.proofs.Steps.Serve.{seat_unlet, seat_served}
 use Rattle.senders.proofs.seat_sends.Goals as goal
 
 pub is_let-requires : goal.is_let-requires

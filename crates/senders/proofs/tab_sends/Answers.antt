@@ -1,6 +1,6 @@
 -- A tab that is not live is refused. Assumes nothing.
 use Rattle.fields.specs.Laws.Table.{table_facts}
-use Rattle.rules.specs.Steps.Serve.{tab_there, tab_dead, tab_served}
+use Rattle.rules.proofs.Steps.Serve.{tab_there, tab_dead, tab_served}
 use Rattle.senders.proofs.tab_sends.Goals as goal
 
 pub tab_of-place-requires : goal.tab_of-place-requires

@@ -1,5 +1,5 @@
 -- The sum is the definition. Assumes nothing.
-use Rattle.rules.specs.Steps.Answer.{packed_is}
+use Rattle.rules.proofs.Steps.Answer.{packed_is}
 use Rattle.frames.proofs.answer.pack.Goals as goal
 
 pub returns : goal.returns

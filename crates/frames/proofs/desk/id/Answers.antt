@@ -1,5 +1,5 @@
 -- The id is made of the seat and the tab's serial, which is one of the seat's opens. Assumes nothing.
-use Rattle.rules.specs.Steps.Desk.{the_tab, id_fits, id_is}
+use Rattle.rules.proofs.Steps.Desk.{the_tab, id_fits, id_is}
 use Rattle.frames.proofs.desk.id.Goals as goal
 
 pub serial-requires : goal.serial-requires

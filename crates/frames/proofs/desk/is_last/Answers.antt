@@ -1,5 +1,5 @@
 -- The tab's process row counts one tab. Assumes nothing.
-use Rattle.rules.specs.Steps.Desk.{the_tab, the_row, last_is}
+use Rattle.rules.proofs.Steps.Desk.{the_tab, the_row, last_is}
 use Rattle.frames.proofs.desk.is_last.Goals as goal
 
 pub row-requires : goal.row-requires

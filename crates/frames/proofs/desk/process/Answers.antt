@@ -1,7 +1,7 @@
 -- The number of the row that the tab hangs on. Assumes nothing.
 use Rattle.std.proofs.Common.{arith}
 use Rattle.fields.specs.Laws.Can.{number_small}
-use Rattle.rules.specs.Steps.Desk.{the_tab, the_row, process_is}
+use Rattle.rules.proofs.Steps.Desk.{the_tab, the_row, process_is}
 use Rattle.frames.proofs.desk.process.Goals as goal
 
 pub row-requires : goal.row-requires

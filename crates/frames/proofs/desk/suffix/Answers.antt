@@ -1,5 +1,5 @@
 -- The name of the row that the tab hangs on. Assumes nothing.
-use Rattle.rules.specs.Steps.Desk.{the_tab, the_row, suffix_is}
+use Rattle.rules.proofs.Steps.Desk.{the_tab, the_row, suffix_is}
 use Rattle.frames.proofs.desk.suffix.Goals as goal
 
 pub row-requires : goal.row-requires

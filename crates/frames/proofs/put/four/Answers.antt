@@ -1,5 +1,5 @@
 -- The four bytes of a number below 2 to the 32nd. Assumes nothing.
-use Rattle.rules.specs.Steps.Put.{four_is}
+use Rattle.rules.proofs.Steps.Put.{four_is}
 use Rattle.frames.proofs.put.four.Goals as goal
 
 pub returns : goal.returns

@@ -1,6 +1,6 @@
 -- Party and tag are bytes; id and size are four bytes each. Assumes nothing.
 use Rattle.std.proofs.Common.{arith}
-use Rattle.rules.specs.Steps.Put.{head_is}
+use Rattle.rules.proofs.Steps.Put.{head_is}
 use Rattle.frames.proofs.put.head_of.Goals as goal
 
 pub returns : goal.returns

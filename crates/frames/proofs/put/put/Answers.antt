@@ -1,7 +1,7 @@
 -- The loop keeps: j bytes of x are written, folded or as they are, and the rest of the room stays. Each turn writes one more.
 -- Assumes nothing.
 use Rattle.std.proofs.Common.{arith}
-use Rattle.rules.specs.Steps.Put.{written_none, written_more, written_all}
+use Rattle.rules.proofs.Steps.Put.{written_none, written_more, written_all}
 use Rattle.frames.proofs.put.put.Goals as goal
 
 pub loop-j-init : goal.loop-j-init

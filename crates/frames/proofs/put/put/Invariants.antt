@@ -1,7 +1,7 @@
 -- The loop keeps: j bytes of x are written, folded or as they are, and the rest of the room stays. Each turn writes one more.
 -- Assumes nothing.
 use Rattle.std.proofs.Common.{length, ◌-◌}
-use Rattle.rules.specs.Steps.Put.{Written}
+use Rattle.rules.proofs.Steps.Put.{Written}
 use Rattle.frames.proofs.put.put.Given as goal
 
 abbrev pub invariant-loop-j : goal.invariant-loop-j

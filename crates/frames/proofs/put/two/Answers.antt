@@ -1,5 +1,5 @@
 -- The two bytes of a number below 65,536. Assumes nothing.
-use Rattle.rules.specs.Steps.Put.{two_is}
+use Rattle.rules.proofs.Steps.Put.{two_is}
 use Rattle.frames.proofs.put.two.Goals as goal
 
 pub returns : goal.returns

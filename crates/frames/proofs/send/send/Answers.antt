@@ -1,5 +1,5 @@
 -- The ten bytes, and then the payload's three parts, each where the one before it ends. Assumes nothing.
-use Rattle.rules.specs.Steps.Send.{send_one}
+use Rattle.rules.proofs.Steps.Send.{send_one}
 use Rattle.frames.proofs.send.send.Goals as goal
 
 pub returns : goal.returns

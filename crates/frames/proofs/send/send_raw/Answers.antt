@@ -1,6 +1,6 @@
 -- The name and what follows it are empty. Assumes nothing.
-use Rattle.rules.specs.Laws.Sent.{sent_payload}
-use Rattle.rules.specs.Steps.Send.{raw_alone}
+use Rattle.rules.proofs.Laws.Sent.{sent_payload}
+use Rattle.rules.proofs.Steps.Send.{raw_alone}
 use Rattle.frames.proofs.send.send_raw.Goals as goal
 
 pub returns : goal.returns

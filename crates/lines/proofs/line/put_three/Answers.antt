@@ -1,7 +1,7 @@
 -- Each number where the one before it ends. Assumes nothing.
 use Rattle.std.proofs.Common.{arith}
 use Rattle.logs.specs.Laws.Bound.{length_number}
-use Rattle.rules.specs.Laws.Wrote.{wrote_three}
+use Rattle.rules.proofs.Laws.Wrote.{wrote_three}
 use Rattle.lines.proofs.line.put_three.Goals as goal
 
 pub put_number-b-requires : goal.put_number-b-requires

@@ -1,5 +1,5 @@
 -- One byte is set. Assumes nothing.
-use Rattle.rules.specs.Laws.Wrote.{wrote_byte}
+use Rattle.rules.proofs.Laws.Wrote.{wrote_byte}
 use Rattle.lines.proofs.text.put.Goals as goal
 
 pub returns : goal.returns

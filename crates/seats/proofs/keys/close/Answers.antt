@@ -2,9 +2,9 @@
 -- last tab of its process, two if not. Assumes nothing.
 use Rattle.std.proofs.Common.{arith, false, refl, sym, true, ◌∙◌}
 use Rattle.rules.specs.Sheet.{desk_at}
-use Rattle.rules.specs.Steps.Desk.{tab_ready, seat_ready, chosen_ready, chosen_closable}
-use Rattle.rules.specs.Laws.Seat.{close_modest}
-use Rattle.rules.specs.Steps.Keys.{close_none, close_done}
+use Rattle.rules.proofs.Steps.Desk.{tab_ready, seat_ready, chosen_ready, chosen_closable}
+use Rattle.rules.proofs.Laws.Seat.{close_modest}
+use Rattle.rules.proofs.Steps.Keys.{close_none, close_done}
 use Rattle.seats.proofs.keys.close.Goals as goal
 
 pub selected-k-requires : goal.selected-k-requires

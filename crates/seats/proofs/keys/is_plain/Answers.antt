@@ -1,6 +1,6 @@
 -- The three ranges of the rule, one after another. Assumes nothing.
 use Rattle.std.proofs.Common.{sym, ◌∙◌}
-use Rattle.rules.specs.Steps.Keys.{plain_low, plain_return, plain_seen}
+use Rattle.rules.proofs.Steps.Keys.{plain_low, plain_return, plain_seen}
 use Rattle.seats.proofs.keys.is_plain.Goals as goal
 
 pub returns-then-is_within : goal.returns-then-is_within

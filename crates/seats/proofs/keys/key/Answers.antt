@@ -1,6 +1,6 @@
 -- F1 to F10, F12, a plain key, or a bad one, in the rule's order. Assumes nothing.
 use Rattle.std.proofs.Common.{arith, sym, ◌∙◌}
-use Rattle.rules.specs.Steps.Keys.{key_select, key_close, key_bad, key_pass}
+use Rattle.rules.proofs.Steps.Keys.{key_select, key_close, key_bad, key_pass}
 use Rattle.seats.proofs.keys.key.Goals as goal
 
 pub returns-then-is_within : goal.returns-then-is_within

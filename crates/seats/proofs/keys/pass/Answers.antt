@@ -1,6 +1,6 @@
 -- With no tab selected nothing happens; else one frame goes to the selected tab. Assumes nothing.
-use Rattle.rules.specs.Steps.Desk.{tab_ready, seat_ready, chosen_ready}
-use Rattle.rules.specs.Steps.Keys.{pass_none, pass_done}
+use Rattle.rules.proofs.Steps.Desk.{tab_ready, seat_ready, chosen_ready}
+use Rattle.rules.proofs.Steps.Keys.{pass_none, pass_done}
 use Rattle.seats.proofs.keys.pass.Goals as goal
 
 pub selected-k-requires : goal.selected-k-requires

@@ -1,8 +1,8 @@
 -- A slot that is not live changes nothing; a live one is selected after render and bar are sent. Assumes nothing.
 use Rattle.std.proofs.Common.{arith, sym, ◌∙◌}
 use Rattle.fields.specs.Table.{view}
-use Rattle.rules.specs.Steps.Desk.{seat_ready, suffix_short}
-use Rattle.rules.specs.Steps.Keys.{select_none, select_done}
+use Rattle.rules.proofs.Steps.Desk.{seat_ready, suffix_short}
+use Rattle.rules.proofs.Steps.Keys.{select_none, select_done}
 use Rattle.seats.proofs.keys.select.Goals as goal
 
 pub is_live-requires : goal.is_live-requires

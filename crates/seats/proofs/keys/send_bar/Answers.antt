@@ -2,8 +2,8 @@
 use Rattle.std.proofs.Common.{ap, arith, length}
 use Rattle.fields.specs.Table.{view}
 use Rattle.rules.specs.Sheet.{desk_at}
-use Rattle.rules.specs.Steps.Desk.{suffix_short}
-use Rattle.rules.specs.Steps.Keys.{bar_empty, bar_suffix}
+use Rattle.rules.proofs.Steps.Desk.{suffix_short}
+use Rattle.rules.proofs.Steps.Keys.{bar_empty, bar_suffix}
 use Rattle.seats.proofs.keys.send_bar.Goals as goal
 
 pub returns-then-k-eq0 : goal.returns-then-k-eq0

@@ -1,9 +1,9 @@
 -- Stop tab, stop process if it was the last, and the bar of no slot, each where the one before it ends. Assumes nothing.
 use Rattle.std.proofs.Common.{arith}
 use Rattle.rules.specs.Sheet.{stop_process}
-use Rattle.rules.specs.Steps.Desk.{shows_none}
-use Rattle.rules.specs.Laws.Sent.{size_only}
-use Rattle.rules.specs.Steps.Keys.{closed_sent}
+use Rattle.rules.proofs.Steps.Desk.{shows_none}
+use Rattle.rules.proofs.Laws.Sent.{size_only}
+use Rattle.rules.proofs.Steps.Keys.{closed_sent}
 use Rattle.seats.proofs.keys.send_closed.Goals as goal
 
 pub send_bar-requires : goal.send_bar-requires

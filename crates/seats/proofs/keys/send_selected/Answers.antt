@@ -1,7 +1,7 @@
 -- Render, and then the bar of the tab that is selected. Assumes nothing.
 use Rattle.std.proofs.Common.{arith}
-use Rattle.rules.specs.Steps.Desk.{shows_live}
-use Rattle.rules.specs.Steps.Keys.{selected_sent}
+use Rattle.rules.proofs.Steps.Desk.{shows_live}
+use Rattle.rules.proofs.Steps.Keys.{selected_sent}
 use Rattle.seats.proofs.keys.send_selected.Goals as goal
 
 pub send_bar-requires : goal.send_bar-requires

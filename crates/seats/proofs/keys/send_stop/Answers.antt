@@ -1,6 +1,6 @@
 -- One action, or none. Assumes nothing.
 use Rattle.rules.specs.Sheet.{stop_process}
-use Rattle.rules.specs.Laws.Sent.{only_yes, only_no}
+use Rattle.rules.proofs.Laws.Sent.{only_yes, only_no}
 use Rattle.seats.proofs.keys.send_stop.Goals as goal
 
 pub returns-then-not-last : goal.returns-then-not-last

@@ -1,5 +1,5 @@
 -- The question's number, if it is not 0; then the part is all of x exactly if it is as long. Assumes nothing.
-use Rattle.rules.specs.Steps.Number.{book_refuses, book_part, book_takes}
+use Rattle.rules.proofs.Steps.Number.{book_refuses, book_part, book_takes}
 use Rattle.seats.proofs.open.book_number.Goals as goal
 
 pub returns-then-why-ne0 : goal.returns-then-why-ne0

@@ -1,7 +1,7 @@
 -- Refused by its number; an open whose number is 0 is one that the table takes. Assumes nothing.
 use Rattle.std.proofs.Common.{sym, ◌∙◌}
-use Rattle.rules.specs.Laws.Open.{open_openable}
-use Rattle.rules.specs.Steps.Open.{open_refused, open_done}
+use Rattle.rules.proofs.Laws.Open.{open_openable}
+use Rattle.rules.proofs.Steps.Open.{open_refused, open_done}
 use Rattle.seats.proofs.open.open.Goals as goal
 
 pub returns-then-why-ne0 : goal.returns-then-why-ne0

@@ -1,6 +1,6 @@
 -- What the book says, then 8 and 9. Assumes nothing.
 use Rattle.fields.specs.Laws.Asked.{sound_seat, let_seat}
-use Rattle.rules.specs.Steps.Number.{number_book, number_full, number_spent, number_none}
+use Rattle.rules.proofs.Steps.Number.{number_book, number_full, number_spent, number_none}
 use Rattle.seats.proofs.open.open_number.Goals as goal
 
 pub returns-then-why-ne0 : goal.returns-then-why-ne0

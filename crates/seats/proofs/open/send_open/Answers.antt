@@ -7,8 +7,8 @@ use Rattle.fields.specs.Promises.{number_left}
 use Rattle.fields.specs.Laws.Asked.{open_seat}
 use Rattle.fields.specs.Laws.Can.{number_small, numbers_enough}
 use Rattle.rules.specs.Sheet.{start_process}
-use Rattle.rules.specs.Laws.Sent.{size_only}
-use Rattle.rules.specs.Steps.Open.{opening_size, open_sent}
+use Rattle.rules.proofs.Laws.Sent.{size_only}
+use Rattle.rules.proofs.Steps.Open.{opening_size, open_sent}
 use Rattle.seats.proofs.open.send_open.Goals as goal
 
 pub opens-requires : goal.opens-requires

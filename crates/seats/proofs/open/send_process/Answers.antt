@@ -2,8 +2,8 @@
 use Rattle.std.proofs.Common.{arith}
 use Rattle.terms.specs.Names.{folded}
 use Rattle.rules.specs.Sheet.{start_process}
-use Rattle.rules.specs.Laws.Sent.{only_yes, only_no}
-use Rattle.rules.specs.Steps.Open.{process_sent}
+use Rattle.rules.proofs.Laws.Sent.{only_yes, only_no}
+use Rattle.rules.proofs.Steps.Open.{process_sent}
 use Rattle.seats.proofs.open.send_process.Goals as goal
 
 pub returns-then-not-new : goal.returns-then-not-new

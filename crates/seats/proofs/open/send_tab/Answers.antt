@@ -1,7 +1,7 @@
 -- Three frames, each where the one before it ends. Assumes nothing.
 use Rattle.std.proofs.Common.{arith}
 use Rattle.terms.specs.Laws.Fold.{length_folded}
-use Rattle.rules.specs.Steps.Open.{tab_sent}
+use Rattle.rules.proofs.Steps.Open.{tab_sent}
 use Rattle.seats.proofs.open.send_tab.Goals as goal
 
 pub send_name-requires : goal.send_name-requires

@@ -4,8 +4,8 @@ use Rattle.std.proofs.Common.{arith, eq-eqb, false, ne_eqb, refl, true}
 use Rattle.fields.specs.Table.{view}
 use Rattle.fields.specs.Laws.Asked.{open_seat}
 use Rattle.rules.specs.Sheet.{new_id, desk_at}
-use Rattle.rules.specs.Laws.Seat.{open_modest}
-use Rattle.rules.specs.Steps.Open.{take_done}
+use Rattle.rules.proofs.Laws.Seat.{open_modest}
+use Rattle.rules.proofs.Steps.Open.{take_done}
 use Rattle.seats.proofs.open.take.Goals as goal
 
 pub owner_at-owner-requires : goal.owner_at-owner-requires

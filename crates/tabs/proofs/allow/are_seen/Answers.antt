@@ -1,6 +1,6 @@
 -- The loop keeps: what is left is seen exactly if all of it is. Assumes nothing.
 use Rattle.std.proofs.Common.{rules, sym, ◌∙◌}
-use Rattle.rules.specs.Steps.Allow.{seen_start, seen_not, seen_more, seen_all}
+use Rattle.rules.proofs.Steps.Allow.{seen_start, seen_not, seen_more, seen_all}
 use Rattle.tabs.proofs.allow.are_seen.Goals as goal
 
 pub loop-j-init : goal.loop-j-init

@@ -1,7 +1,7 @@
 -- The loop keeps: what is left is seen exactly if all of it is. Assumes nothing.
 use Rattle.std.proofs.Common.{length, ◌-◌, ◌≡◌, ◌≤◌}
 use Rattle.terms.specs.Base.{within, every}
-use Rattle.rules.specs.Steps.Allow.{seen_from}
+use Rattle.rules.proofs.Steps.Allow.{seen_from}
 use Rattle.tabs.proofs.allow.are_seen.Given as goal
 
 abbrev pub invariant-loop-j : goal.invariant-loop-j

@@ -1,6 +1,6 @@
 -- The loop keeps: what is left of the scheme stands there exactly if all of it does. Assumes nothing.
 use Rattle.std.proofs.Common.{rules, sym, ◌∙◌}
-use Rattle.rules.specs.Steps.Allow.{front_short, front_start, front_unlike, front_more, front_all}
+use Rattle.rules.proofs.Steps.Allow.{front_short, front_start, front_unlike, front_more, front_all}
 use Rattle.tabs.proofs.allow.goes_on.Goals as goal
 
 pub returns-then-u-scheme : goal.returns-then-u-scheme

@@ -1,7 +1,7 @@
 -- The loop keeps: what is left of the scheme stands there exactly if all of it does. Assumes nothing.
 use Rattle.std.proofs.Common.{length, ◌-◌, ◌<◌, ◌≡◌, ◌≤◌}
 use Rattle.rules.specs.Inner.{goes_on}
-use Rattle.rules.specs.Steps.Allow.{front_from}
+use Rattle.rules.proofs.Steps.Allow.{front_from}
 use Rattle.tabs.proofs.allow.goes_on.Given as goal
 
 abbrev pub invariant-loop-j : goal.invariant-loop-j

@@ -1,5 +1,5 @@
 -- The two tests, one after the other. Assumes nothing.
-use Rattle.rules.specs.Steps.Allow.{cookie_unnamed, cookie_named}
+use Rattle.rules.proofs.Steps.Allow.{cookie_unnamed, cookie_named}
 use Rattle.tabs.proofs.allow.is_cookie_domain.Goals as goal
 
 pub returns-then-not-is_name : goal.returns-then-not-is_name

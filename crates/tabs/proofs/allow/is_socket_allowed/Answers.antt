@@ -1,5 +1,5 @@
 -- The two tests, one after the other. Assumes nothing.
-use Rattle.rules.specs.Steps.Allow.{socket_none, socket_some}
+use Rattle.rules.proofs.Steps.Allow.{socket_none, socket_some}
 use Rattle.tabs.proofs.allow.is_socket_allowed.Goals as goal
 
 pub returns-then-port-eq0 : goal.returns-then-port-eq0

@@ -1,5 +1,5 @@
 -- The two tests, one after the other. Assumes nothing.
-use Rattle.rules.specs.Steps.Allow.{host_unnamed, host_named}
+use Rattle.rules.proofs.Steps.Allow.{host_unnamed, host_named}
 use Rattle.tabs.proofs.allow.is_socket_host.Goals as goal
 
 pub returns-then-not-is_name : goal.returns-then-not-is_name

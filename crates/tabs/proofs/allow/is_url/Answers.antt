@@ -1,5 +1,5 @@
 -- The length, the bytes and the two schemes, in the definition's order. Assumes nothing.
-use Rattle.rules.specs.Steps.Allow.{url_short, url_long, url_unseen, url_http, url_https}
+use Rattle.rules.proofs.Steps.Allow.{url_short, url_long, url_unseen, url_http, url_https}
 use Rattle.tabs.proofs.allow.is_url.Goals as goal
 
 pub returns-then-u-lt8 : goal.returns-then-u-lt8

@@ -1,6 +1,6 @@
 -- Refused, or passed on. Assumes nothing.
-use Rattle.rules.specs.Steps.Desk.{tab_ready, the_tab}
-use Rattle.rules.specs.Steps.Deliver.{document_refused, document_passed}
+use Rattle.rules.proofs.Steps.Desk.{tab_ready, the_tab}
+use Rattle.rules.proofs.Steps.Deliver.{document_refused, document_passed}
 use Rattle.tabs.proofs.deliver.document.Goals as goal
 
 pub is_waiting-requires : goal.is_waiting-requires

@@ -1,7 +1,7 @@
 -- The sender first, and then the mark. Assumes nothing.
 use Rattle.std.proofs.Common.{arith}
-use Rattle.rules.specs.Steps.Desk.{the_tab}
-use Rattle.rules.specs.Steps.Deliver.{asked_own}
+use Rattle.rules.proofs.Steps.Desk.{the_tab}
+use Rattle.rules.proofs.Steps.Deliver.{asked_own}
 use Rattle.tabs.proofs.deliver.is_asked.Goals as goal
 
 pub is_waiting-requires : goal.is_waiting-requires

@@ -1,5 +1,5 @@
 -- One frame to the tab, and the mark is cleared. Assumes nothing.
-use Rattle.rules.specs.Steps.Deliver.{passed}
+use Rattle.rules.proofs.Steps.Deliver.{passed}
 use Rattle.tabs.proofs.deliver.pass_on.Goals as goal
 
 pub returns : goal.returns

@@ -1,5 +1,5 @@
 -- Refused, or passed on. Assumes nothing.
-use Rattle.rules.specs.Steps.Deliver.{asked_waits, result_refused, result_passed}
+use Rattle.rules.proofs.Steps.Deliver.{asked_waits, result_refused, result_passed}
 use Rattle.tabs.proofs.deliver.result.Goals as goal
 
 pub returns-then-not-is_asked : goal.returns-then-not-is_asked

@@ -1,5 +1,5 @@
 -- One error action to the tab. Assumes nothing.
-use Rattle.rules.specs.Steps.Tab.{deny_done}
+use Rattle.rules.proofs.Steps.Tab.{deny_done}
 use Rattle.tabs.proofs.tab.deny.Goals as goal
 
 pub returns : goal.returns

@@ -1,7 +1,7 @@
 -- The tab is selected, and its seat's screen paints; or it is not, and nothing happens. Assumes nothing.
 use Rattle.std.proofs.Common.{arith}
-use Rattle.rules.specs.Steps.Desk.{tab_ready, the_seat, seat_lt}
-use Rattle.rules.specs.Steps.Tab.{display_none, display_done}
+use Rattle.rules.proofs.Steps.Desk.{tab_ready, the_seat, seat_lt}
+use Rattle.rules.proofs.Steps.Tab.{display_none, display_done}
 use Rattle.tabs.proofs.tab.display.Goals as goal
 
 pub selected-requires : goal.selected-requires

@@ -1,7 +1,7 @@
 -- The URL first, and then the mark. Assumes nothing.
 use Rattle.std.proofs.Common.{sym, ◌∙◌}
-use Rattle.rules.specs.Steps.Desk.{the_tab}
-use Rattle.rules.specs.Steps.Tab.{may_fetch}
+use Rattle.rules.proofs.Steps.Desk.{the_tab}
+use Rattle.rules.proofs.Steps.Tab.{may_fetch}
 use Rattle.tabs.proofs.tab.may_fetch.Goals as goal
 
 pub is_waiting-requires : goal.is_waiting-requires

@@ -1,6 +1,6 @@
 -- The domain first, and then the mark. Assumes nothing.
-use Rattle.rules.specs.Steps.Desk.{the_tab}
-use Rattle.rules.specs.Steps.Tab.{may_retrieve}
+use Rattle.rules.proofs.Steps.Desk.{the_tab}
+use Rattle.rules.proofs.Steps.Tab.{may_retrieve}
 use Rattle.tabs.proofs.tab.may_retrieve.Goals as goal
 
 pub is_waiting-requires : goal.is_waiting-requires

@@ -1,9 +1,9 @@
 -- Denied, or asked of the tab's process with the mark set. A domain that is a name has at most 253 bytes. Assumes nothing.
 use Rattle.std.proofs.Common.{ap, arith, length, ◌∙◌}
-use Rattle.rules.specs.Laws.Frame.{length_be}
-use Rattle.rules.specs.Steps.Desk.{tab_ready}
-use Rattle.rules.specs.Steps.Send.{name_size}
-use Rattle.rules.specs.Steps.Tab.{retrieve_short, retrieve_quiet, retrieve_denied, retrieve_done}
+use Rattle.rules.proofs.Laws.Frame.{length_be}
+use Rattle.rules.proofs.Steps.Desk.{tab_ready}
+use Rattle.rules.proofs.Steps.Send.{name_size}
+use Rattle.rules.proofs.Steps.Tab.{retrieve_short, retrieve_quiet, retrieve_denied, retrieve_done}
 use Rattle.tabs.proofs.tab.retrieve.Goals as goal
 
 pub returns-then-not-may_retrieve : goal.returns-then-not-may_retrieve

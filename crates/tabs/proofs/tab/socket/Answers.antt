@@ -1,7 +1,7 @@
 -- Allowed or denied by port, host and the tab's suffix. Assumes nothing.
 use Rattle.std.proofs.Common.{arith}
-use Rattle.rules.specs.Steps.Send.{name_size}
-use Rattle.rules.specs.Steps.Tab.{socket_denied, socket_done}
+use Rattle.rules.proofs.Steps.Send.{name_size}
+use Rattle.rules.proofs.Steps.Tab.{socket_denied, socket_done}
 use Rattle.tabs.proofs.tab.socket.Goals as goal
 
 pub returns-then-not-is_socket_allowed : goal.returns-then-not-is_socket_allowed

@@ -1,7 +1,7 @@
 -- Denied, or passed to the tab's process, its domain folded. Assumes nothing.
 use Rattle.std.proofs.Common.{[], arith, length, ◌∷◌}
-use Rattle.rules.specs.Steps.Send.{full_size}
-use Rattle.rules.specs.Steps.Tab.{store_denied, store_done}
+use Rattle.rules.proofs.Steps.Send.{full_size}
+use Rattle.rules.proofs.Steps.Tab.{store_denied, store_done}
 use Rattle.tabs.proofs.tab.store.Goals as goal
 
 pub returns-then-not-is_cookie_domain : goal.returns-then-not-is_cookie_domain

@@ -1,6 +1,6 @@
 -- Denied, or fetched with the mark set. Assumes nothing.
-use Rattle.rules.specs.Steps.Desk.{tab_ready}
-use Rattle.rules.specs.Steps.Tab.{fetch_quiet, url_denied, url_done}
+use Rattle.rules.proofs.Steps.Desk.{tab_ready}
+use Rattle.rules.proofs.Steps.Tab.{fetch_quiet, url_denied, url_done}
 use Rattle.tabs.proofs.tab.url.Goals as goal
 
 pub returns-then-not-may_fetch : goal.returns-then-not-may_fetch

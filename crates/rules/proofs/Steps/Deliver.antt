@@ -1,0 +1,67 @@
+-- What src/deliver.rt leaves at each of its exits. Assumes nothing.
+use Rattle.std.specs.Prelude.{ℕ, ◌≡◌, Bool, true, false, ◌&&◌, ◌≢◌, List, [], ◌∷◌, eqb}
+use Rattle.std.proofs.Math.Path.{refl}
+use Rattle.std.proofs.Common.{sym, ◌∙◌, eq-eqb, ne_eqb}
+use Rattle.terms.specs.Laws.Bools.{and_right}
+use Rattle.fields.specs.Table.{view, waits, unmarked}
+use Rattle.fields.specs.declared.mark.Mark.{Mark}
+use Rattle.fields.specs.declared.mark.Mark.TheVariants.{Cookie, Document}
+use Rattle.rules.specs.Rule.Frame.{framed}
+use Rattle.rules.specs.Rule.Desk.{desk, desk_at, reply, clear_mark, changed}
+use Rattle.rules.specs.Rule.Tab.{result_rule, document_rule}
+use Rattle.rules.specs.Held.{Sent, Says, Replied}
+use Rattle.rules.proofs.Steps.Decide.{replied_refused, replied_done}
+use Rattle.rules.proofs.Steps.Tab.{sent_id}
+use Rattle.rules.specs.declared.verdict.Verdict.{Verdict}
+
+module _ (t : List ℕ) (s k : ℕ) where
+  -- ---- result
+
+  module _ (n : ℕ) where
+    pub asked_other : {p : ℕ} → p ≡ (desk_at t s).process k → p ≢ n
+        → false ≡ eqb ((desk_at t s).process k) n && (desk_at t s).waits k Cookie
+    asked_other e h = rw (ne_eqb ((desk_at t s).process k) n (λ z. h (e ∙ z)))
+
+    pub asked_own : {p : ℕ} {w : Bool} → p ≡ (desk_at t s).process k → p ≡ n → w ≡ waits (view t) s k Cookie
+        → w ≡ eqb ((desk_at t s).process k) n && (desk_at t s).waits k Cookie
+    unfolding desk
+    asked_own e h f = rw (eq-eqb ((desk_at t s).process k) n (sym e ∙ h)) f
+
+    pub asked_waits : {r : Bool} → r ≡ eqb ((desk_at t s).process k) n && (desk_at t s).waits k Cookie → r ≡ true
+        → waits (view t) s k Cookie ≡ true
+    unfolding desk
+    asked_waits e h = and_right (eqb ((desk_at t s).process k) n) (waits (view t) s k Cookie) (sym e ∙ h)
+
+    pub result_refused : {o : List ℕ} {r : Bool} {g : Verdict} (x : List ℕ)
+        → r ≡ eqb ((desk_at t s).process k) n && (desk_at t s).waits k Cookie → r ≡ false → Says 10 0 0 g
+        → Replied t s (result_rule (desk_at t s) n k x) o t o g
+    unfolding result_rule
+    result_refused x e h = replied_refused (rw (sym e ∙ h))
+
+    pub result_passed : {o t' o' : List ℕ} {r : Bool} {g : Verdict} (x : List ℕ)
+        → r ≡ eqb ((desk_at t s).process k) n && (desk_at t s).waits k Cookie → r ≡ true
+        → Replied t s (reply (framed 2 ((desk_at t s).id k) 7 x ∷ []) (clear_mark k Cookie)) o t' o' g
+        → Replied t s (result_rule (desk_at t s) n k x) o t' o' g
+    unfolding result_rule
+    result_passed x e h w = rw (sym e ∙ h) w
+
+  -- ---- document
+
+  pub document_refused : {o : List ℕ} {r : Bool} {g : Verdict} (x : List ℕ) → r ≡ waits (view t) s k Document → r ≡ false
+      → Says 10 0 0 g → Replied t s (document_rule (desk_at t s) k x) o t o g
+  unfolding document_rule desk
+  document_refused x e h = replied_refused (rw (sym e ∙ h))
+
+  pub document_passed : {o t' o' : List ℕ} {r : Bool} {g : Verdict} (x : List ℕ) → r ≡ waits (view t) s k Document → r ≡ true
+      → Replied t s (reply (framed 2 ((desk_at t s).id k) 6 x ∷ []) (clear_mark k Document)) o t' o' g
+      → Replied t s (document_rule (desk_at t s) k x) o t' o' g
+  unfolding document_rule desk
+  document_passed x e h w = rw (sym e ∙ h) w
+
+  -- ---- what is passed on
+
+  pub passed : {o t' o' : List ℕ} {i tag n : ℕ} {g : Verdict} (m : Mark) (x : List ℕ) → i ≡ (desk_at t s).id k
+      → Sent o 0 (framed 2 i tag x ∷ []) o' n → t' ≡ unmarked t s k m → Says 0 1 n g
+      → Replied t s (reply (framed 2 ((desk_at t s).id k) tag x ∷ []) (clear_mark k m)) o t' o' g
+  unfolding changed
+  passed m x j w f = replied_done (clear_mark k m) refl (sent_id j w) f

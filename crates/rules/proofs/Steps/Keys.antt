@@ -1,0 +1,168 @@
+-- What src/keys.rt sends and leaves at each of its exits. Assumes nothing.
+use Rattle.std.specs.Prelude.{ℕ, ◌-◌, ◌%◌, ◌<◌, ◌≡◌, Bool, true, false, cond, ◌≢◌, List, [], ◌∷◌, ◌++◌, length}
+use Rattle.std.proofs.Math.Path.{refl, sym, ap}
+use Rattle.std.proofs.Common.{subst, ◌∙◌}
+use native.Mathlib.Omega.{arith}
+use borrow.Author.Tests.{eq-eqb, ne_eqb}
+use Rattle.terms.specs.Base.{within, Range}
+use Rattle.terms.specs.Laws.Bools.{within_at}
+use Rattle.fields.specs.Table.{view, selected, live, picked, closed}
+use Rattle.fields.specs.Laws.There.{live_there}
+use Rattle.rules.specs.Rule.Frame.{be, framed}
+use Rattle.rules.specs.Rule.Action.{bar, render, stop_tab, stop_process}
+use Rattle.rules.specs.Rule.Desk.{Desk, desk, desk_at, reply, stay, select_tab, close_tab, changed}
+use Rattle.rules.specs.Rule.Seat.{only, select_rule, close_actions, close_rule, pass_rule, plain, key_rule}
+use Rattle.rules.specs.Held.{Sent, Says, Replied, ReadyTab, bar_of}
+use Rattle.rules.proofs.Laws.Sent.{sent_then, sent_payload, size_only}
+use Rattle.rules.proofs.Steps.Decide.{replied_refused, replied_idle, replied_done}
+use Rattle.rules.specs.declared.verdict.Verdict.{Verdict}
+
+-- ---- the bar
+
+pub bar_empty : {o o' : List ℕ} {at s r k : ℕ} (d : Desk) → Sent o at (framed 1 s 1 [] ∷ []) o' r → k ≡ 0
+    → Sent o at (bar s (bar_of d k) ∷ []) o' r
+unfolding bar_of
+bar_empty {k = k} d w e = rw (eq-eqb k 0 e) w
+
+bar_slot : (d : Desk) (k : ℕ) → k ≢ 0 → d.suffix k ≡ bar_of d k
+unfolding bar_of
+bar_slot d k h = rw (ne_eqb k 0 h)
+
+pub bar_suffix : {o o' x : List ℕ} {at s r : ℕ} (d : Desk) (k : ℕ) → Sent o at (framed 1 s 1 x ∷ []) o' r → x ≡ d.suffix k
+    → k ≢ 0
+    → Sent o at (bar s (bar_of d k) ∷ []) o' r
+bar_suffix {x = x} d k w e h = sent_payload x (bar_of d k) (e ∙ bar_slot d k h) w
+
+-- ---- select
+
+pub selected_sent : {t o o₁ o₂ : List ℕ} {s k i a r : ℕ} → ReadyTab t o s k → Sent o 0 (framed 2 i 2 [] ∷ []) o₁ a
+    → Sent o₁ a (bar s (bar_of (desk_at t s) k) ∷ []) o₂ r → i ≡ (desk_at t s).id k
+    → Sent o 0 (render ((desk_at t s).id k) ∷ bar s ((desk_at t s).suffix k) ∷ []) o₂ r
+selected_sent {t} {o} {o₁} {o₂} {s} {k} {i} {a} {r} w f g e =
+    let d = desk_at t s in
+    let q = (live_there t s k w.there).1.low in
+    let h = w.roomy in
+    subst (λ (j : ℕ). Sent o 0 (render j ∷ bar s (d.suffix k) ∷ []) o₂ r) e
+    (sent_then (omega arith) f (sent_payload (bar_of d k) (d.suffix k) (sym (bar_slot d k (λ z. omega arith))) g))
+
+module _ {t : List ℕ} {s : ℕ} where
+  pub select_none : {o : List ℕ} {g : Verdict} (k : ℕ) → live (view t) s k ≡ false → Says 0 0 0 g
+      → Replied t s (select_rule (desk_at t s) k) o t o g
+  unfolding select_rule desk
+  select_none k e = replied_idle (rw e)
+
+  pub select_done : {o t' o' : List ℕ} {n : ℕ} {g : Verdict} (k : ℕ) → live (view t) s k ≡ true
+      → Sent o 0 (render ((desk_at t s).id k) ∷ bar s ((desk_at t s).suffix k) ∷ []) o' n → t' ≡ picked t s k → Says 0 2 n g
+      → Replied t s (select_rule (desk_at t s) k) o t' o' g
+  unfolding select_rule desk changed
+  select_done k e w f = replied_done (select_tab k) (rw e) w f
+
+-- ---- close
+
+pub closed_sent : {t o o₁ o₂ o₃ : List ℕ} {s k i a b r : ℕ} (l : Bool) (p : ℕ) → ReadyTab t o s k
+    → Sent o 0 (framed 5 i 2 [] ∷ []) o₁ a → Sent o₁ a (only l (stop_process p)) o₂ b
+    → Sent o₂ b (bar s (bar_of (desk_at t s) 0) ∷ []) o₃ r
+    → i ≡ (desk_at t s).id k → l ≡ (desk_at t s).last_tab k → p ≡ (desk_at t s).process k
+    → Sent o 0 (close_actions (desk_at t s) k) o₃ r
+unfolding close_actions bar_of desk
+closed_sent {t} {o} {o₁} {o₂} {o₃} {s} {k} {i} {a} {b} {r} l p w f g h e c q =
+    let d = desk_at t s in
+    let m = w.roomy in
+    let z = size_only l (stop_process p) in
+    let x = f.next in
+    let y = f.same in
+    subst (λ (j : ℕ). Sent o 0 (stop_tab j ∷ (only (d.last_tab k) (stop_process (d.process k)) ++ (bar s [] ∷ []))) o₃ r) e
+    (sent_then (omega arith) f
+    (subst (λ (j : ℕ). Sent o₁ a (only (d.last_tab k) (stop_process j) ++ (bar s [] ∷ [])) o₃ r) q
+    (subst (λ (c : Bool). Sent o₁ a (only c (stop_process p) ++ (bar s [] ∷ [])) o₃ r) c (sent_then (omega arith) g h))))
+
+close_is : (t : List ℕ) (s k : ℕ) → k ≡ view t (selected s) → k ≢ 0
+    → close_rule (desk_at t s) ≡ reply (close_actions (desk_at t s) k) close_tab
+unfolding close_rule desk
+close_is t s k e h =
+    rw (ne_eqb (view t (selected s)) 0 (λ z. h (e ∙ z)))
+    (ap (λ (j : ℕ). reply (close_actions (desk_at t s) j) close_tab) (sym e))
+
+count_closed : (d : Desk) (k : ℕ) (b : Bool) → d.last_tab k ≡ b → length (close_actions d k) ≡ cond b 3 2
+unfolding close_actions only
+count_closed d k true e = rw e
+count_closed d k false e = rw e
+
+module _ {t : List ℕ} {s : ℕ} where
+  pub close_none : {o : List ℕ} {k : ℕ} {g : Verdict} → k ≡ view t (selected s) → k ≡ 0 → Says 0 0 0 g
+      → Replied t s (close_rule (desk_at t s)) o t o g
+  unfolding close_rule desk
+  close_none e z = replied_idle (rw (eq-eqb (view t (selected s)) 0 (sym e ∙ z)))
+
+  pub close_done : {o t' o' : List ℕ} {k n m : ℕ} {g : Verdict} (b : Bool) → k ≡ view t (selected s) → k ≢ 0
+      → b ≡ (desk_at t s).last_tab k → Sent o 0 (close_actions (desk_at t s) k) o' n → t' ≡ closed t s
+      → Says 0 m n g → m ≡ cond b 3 2 → Replied t s (close_rule (desk_at t s)) o t' o' g
+  unfolding changed
+  close_done {o} {t'} {o'} {k} {n} {m} {g} b e h l w f y c =
+      replied_done close_tab (close_is t s k e h) w f
+      (subst (λ (j : ℕ). Says 0 j n g) (c ∙ sym (count_closed (desk_at t s) k b (sym l))) y)
+
+-- ---- what goes to the selected tab
+
+module _ {t : List ℕ} {s : ℕ} (tag : ℕ) (x : List ℕ) where
+  pub pass_none : {o : List ℕ} {k : ℕ} {g : Verdict} → k ≡ view t (selected s) → k ≡ 0 → Says 0 0 0 g
+      → Replied t s (pass_rule (desk_at t s) (λ (i : ℕ). framed 2 i tag x)) o t o g
+  unfolding pass_rule desk
+  pass_none e z = replied_idle (rw (eq-eqb (view t (selected s)) 0 (sym e ∙ z)))
+
+  pub pass_done : {o o' : List ℕ} {k i n : ℕ} {g : Verdict} → k ≡ view t (selected s) → k ≢ 0 → i ≡ (desk_at t s).id k
+      → Sent o 0 (framed 2 i tag x ∷ []) o' n → Says 0 1 n g
+      → Replied t s (pass_rule (desk_at t s) (λ (i : ℕ). framed 2 i tag x)) o t o' g
+  unfolding pass_rule desk changed
+  pass_done {k = k} {i = i} e h j w y =
+      replied_done stay
+      (rw (ne_eqb (view t (selected s)) 0 (λ z. h (e ∙ z)))
+      (ap (λ (j : ℕ). reply (framed 2 j tag x ∷ []) stay)
+      (sym (j ∙ ap (λ (q : ℕ). (desk_at t s).id q) e))))
+      w refl y
+
+-- ---- keys
+
+pub key_slot : {k w : ℕ} → w ≡ k → within 14 23 k ≡ true → Range 1 10 (w - 13)
+key_slot {k} {w} e h =
+    let r = within_at 14 23 k h in
+    let a = r.low in
+    let b = r.high in
+    record { low = omega arith; high = omega arith }
+
+pub plain_low : (k : ℕ) → within 8 10 k ≡ true → true ≡ plain k
+unfolding plain
+plain_low k e = rw e
+
+pub plain_return : (k : ℕ) → within 8 10 k ≡ false → k ≡ 13 → true ≡ plain k
+unfolding plain
+plain_return k e h = rw (e, eq-eqb k 13 h)
+
+pub plain_seen : (k : ℕ) → within 8 10 k ≡ false → k ≢ 13 → within 32 126 k ≡ plain k
+unfolding plain
+plain_seen k e h = rw (e, ne_eqb k 13 h)
+
+pub key_bad : {t o : List ℕ} {s : ℕ} {g : Verdict} (k : ℕ) → within 14 23 k ≡ false → k ≢ 25 → plain k ≡ false → Says 5 0 0 g
+    → Replied t s (key_rule (desk_at t s) k) o t o g
+unfolding key_rule
+key_bad k h e p y = replied_refused (rw (h, ne_eqb k 25 e, p)) y
+
+module _ {t o t' o' : List ℕ} {s : ℕ} {g : Verdict} (k : ℕ) where
+  pub key_select : {w : ℕ} → w ≡ k → within 14 23 k ≡ true → Replied t s (select_rule (desk_at t s) (w - 13)) o t' o' g
+      → Replied t s (key_rule (desk_at t s) k) o t' o' g
+  unfolding key_rule
+  key_select {w} e h r = rw h (subst (λ (j : ℕ). Replied t s (select_rule (desk_at t s) (j - 13)) o t' o' g) e r)
+
+  pub key_close : within 14 23 k ≡ false → k ≡ 25 → Replied t s (close_rule (desk_at t s)) o t' o' g
+      → Replied t s (key_rule (desk_at t s) k) o t' o' g
+  unfolding key_rule
+  key_close h e r = rw (h, eq-eqb k 25 e) r
+
+  pub key_pass : within 14 23 k ≡ false → k ≢ 25 → plain k ≡ true → k < 256
+      → Replied t s (pass_rule (desk_at t s) (λ (i : ℕ). framed 2 i 3 (k ∷ []))) o t' o' g
+      → Replied t s (key_rule (desk_at t s) k) o t' o' g
+  unfolding key_rule be
+  key_pass h e p l r =
+      let m : k ≡ k % 256 = omega arith in
+      rw (h, ne_eqb k 25 e, p)
+      (subst (λ (j : ℕ). Replied t s (pass_rule (desk_at t s) (λ (i : ℕ). framed 2 i 3 (j ∷ []))) o t' o' g) m r)
