@@ -38,7 +38,8 @@ pub fn stewlattice_start(table: &mut [u8], book: &[u8]) -> u64
 fn decide(table: &mut [u8], book: &[u8], event: &[u8], out: &mut [u8]) -> Verdict
     ensures { Decided (step_of (length out.old) table.old book.now event.now) out.old table.new out.new result }
 {
-    if out.len() < ROOM {
+    let short = out.len() < ROOM;
+    if short {
         return refused(1);
     }
     if !sound(table) {

@@ -74,7 +74,8 @@ pub fn log(
     ensures { Logged book.now buf.old table.old out.old buf.new table.new out.new }
 {
     let said = begin(table, book, out);
-    if said == 0 {
+    let none = said == 0;
+    if none {
         run(rt, buf, table, book, out, who);
         return;
     }

@@ -64,7 +64,8 @@ fn cut_ready(s: &[u8], ended: bool) -> Ready
             last: false,
         };
     }
-    if s.len() == 0 {
+    let none = s.len() == 0;
+    if none {
         return Ready {
             count: 0,
             last: true,

@@ -22,7 +22,8 @@ pub fn close(t: &mut [u8], s: usize)
     let p = row(t, s, k);
     let count = tabs(t, p);
     unhang(t, s, k, p);
-    if count == 1 {
+    let last = count == 1;
+    if last {
         clear(t, p);
     }
 }

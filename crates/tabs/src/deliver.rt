@@ -19,7 +19,8 @@ fn is_asked(t: &[u8], s: usize, k: usize, n: usize) -> bool
     ensures { result ≡ eqb ((desk_at t.now s).process k) n && (desk_at t.now s).waits k Cookie }
 {
     let on = process(t, s, k);
-    if on != n {
+    let another = on != n;
+    if another {
         return false;
     }
     is_waiting(t, s, k, Mark::Cookie)

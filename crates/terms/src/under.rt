@@ -11,7 +11,8 @@ pub fn is_under(h: &[u8], t: &[u8]) -> bool
         return is_same(h, t);
     }
     let from = h.len() - t.len();
-    if h[from - 1] == b'.' {
+    let dotted = h[from - 1] == b'.';
+    if dotted {
         is_same(&h[from..], t)
     } else {
         false

@@ -61,6 +61,7 @@ pub(crate) fn class_of(x: u8) -> Class
     Class::Other
 }
 
+#[tactic(auto, using(crate::specs::Steps::Walk::grown_is, std::proofs::lemmas::Bool::Decides::nat_tests))]
 fn grow(l: Label, hyphen: bool, digits: bool) -> Walk
     ensures { result ≡ grown l hyphen digits }
 {

@@ -4,8 +4,8 @@ use Rattle.logging.specs.Laws.Begin.{begun_fits}
 use Rattle.logging.specs.Laws.Run.{logged_ran, logged_refused}
 use Rattle.logging.proofs.run.log.Goals as goal
 
-pub returns-then-said-eq0 : goal.returns-then-said-eq0
-returns-then-said-eq0 g c = logged_ran c.begin-said.ensures c.if-said-eq0.true c.run.ensures
+pub returns-then-none : goal.returns-then-none
+returns-then-none g c = logged_ran c.begin-said.ensures c.if-none.true c.run.ensures
 
 pub flush-requires : goal.flush-requires
 flush-requires g c =
@@ -14,4 +14,4 @@ flush-requires g c =
     omega (arith, r, c.begin-said.auto.out)
 
 pub returns : goal.returns
-returns g c = logged_refused c.begin-said.ensures c.if-said-eq0.false
+returns g c = logged_refused c.begin-said.ensures c.if-none.false

@@ -12,16 +12,16 @@ returns-then-not-ended c =
     let on : c.args.ended ≡ false = c.if-not-ended.true in
     rw on (sym (cut_open _ small))
 
-pub returns-then-s-eq0 : goal.returns-then-s-eq0
-returns-then-s-eq0 c =
+pub returns-then-none : goal.returns-then-none
+returns-then-none c =
     let small = sym c.is_oversized.ensures ∙ c.if-is_oversized.false in
     let ends : c.args.ended ≡ true = c.if-not-ended.false in
     let s = c.args.s.now in
-    let none : length s ≡ 0 = omega (arith, c.if-s-eq0.true) in
+    let none : length s ≡ 0 = omega (arith, c.if-none.true) in
     rw ends (sym (cut_empty s small none))
 
 pub returns : goal.returns
 returns c =
     let small = sym c.is_oversized.ensures ∙ c.if-is_oversized.false in
     let ends : c.args.ended ≡ true = c.if-not-ended.false in
-    rw ends (sym (cut_rest _ small c.if-s-eq0.false))
+    rw ends (sym (cut_rest _ small c.if-none.false))

@@ -23,14 +23,14 @@ pub clear-requires : goal.clear-requires
 clear-requires c =
     record { long = c.unhang.ensures.0; row = (close_row c.requires c.selected-k.ensures.0 c.row-p.ensures.0).row }
 
-pub returns-then-count-eq1 : goal.returns-then-count-eq1
-returns-then-count-eq1 c =
-    let only : c.tabs-count.result ≡ 1 = omega (arith, c.if-count-eq1.true) in
+pub returns-then-last : goal.returns-then-last
+returns-then-last c =
+    let only : c.tabs-count.result ≡ 1 = omega (arith, c.if-last.true) in
     close_ends c.args.t.now c.args.s c.selected-k.ensures.0 c.row-p.ensures.0
     c.tabs-count.ensures.0 only c.unhang.ensures.1 c.clear.ensures.1
 
-pub returns-else-count-eq1 : goal.returns-else-count-eq1
-returns-else-count-eq1 c =
+pub returns-else-last : goal.returns-else-last
+returns-else-last c =
     let more : c.tabs-count.result ≢ 1 = λ e. omega arith in
     close_leaves c.args.t.now c.args.s c.selected-k.ensures.0 c.row-p.ensures.0
     c.tabs-count.ensures.0 more c.unhang.ensures.1

@@ -10,4 +10,4 @@ is_waiting-requires c =
 
 pub returns : goal.returns
 returns c =
-    asked_own _ _ _ _ c.process-on.ensures.0 (omega (arith, c.if-on-n.false)) c.is_waiting.ensures
+    asked_own _ _ _ _ c.process-on.ensures.0 (omega (arith, c.if-another.false)) c.is_waiting.ensures

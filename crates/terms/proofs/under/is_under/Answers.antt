@@ -12,8 +12,8 @@ returns-then-h-t c =
     let a = c.args in
     c.is_same.ensures ∙ sym (under_flat a.h.now a.t.now c.if-h-t.true)
 
-pub returns-then-h-from-eq46 : goal.returns-then-h-from-eq46
-returns-then-h-from-eq46 c =
+pub returns-then-dotted : goal.returns-then-dotted
+returns-then-dotted c =
     let args = c.args in
     let h = args.h.now in
     let t = args.t.now in
@@ -21,10 +21,10 @@ returns-then-h-from-eq46 c =
     let x = get_or h (d - 1) 0 in
     let q : x ≡ 46 = omega arith in
     let e : eqb (lower x) 46 ≡ true = dot_unseen x ∙ eq-eqb x 46 q in
-    c.is_same-then-h-from-eq46.ensures ∙ rw (take_rest d h) (sym (under_long h t d (omega arith) (omega arith) ∙ rw e))
+    c.is_same-then-dotted.ensures ∙ rw (take_rest d h) (sym (under_long h t d (omega arith) (omega arith) ∙ rw e))
 
-pub returns-else-h-from-eq46 : goal.returns-else-h-from-eq46
-returns-else-h-from-eq46 c =
+pub returns-else-dotted : goal.returns-else-dotted
+returns-else-dotted c =
     let args = c.args in
     let h = args.h.now in
     let t = args.t.now in
