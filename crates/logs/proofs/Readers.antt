@@ -14,7 +14,8 @@ use Rattle.logs.specs.Laws.Reads.{log_append}
 pub reads_log : {b held : List ℕ} {ended : Bool} {n : ℕ} {t : List ℕ} {more : List (List ℕ)} {x : List ℕ}
     → Reads b held ended n t more x → (ended ≡ true → more ≡ []) → x ≡ log_from n t b (events (held ++ joined more))
 reads_log {b} (comes {held = held} {n = n} {t = t} {more = more} chunk r) f =
-    reads_log r (λ e. absurd (false≢true e)) ∙ ap (λ s. log_from n t b (events s)) (append_assoc held chunk (joined more) ∙ ap (λ z. held ++ z) (sym (joined_more chunk more)))
+    let more= = append_assoc held chunk (joined more) ∙ ap (λ z. held ++ z) (sym (joined_more chunk more)) in
+    reads_log r (λ e. absurd (false≢true e)) ∙ ap (λ s. log_from n t b (events s)) more=
 reads_log (ends r) f = reads_log r (λ e. refl)
 reads_log {b} (gives {held = held} {ended = ended} {n = n} {t = t} {more = more} k m e r) f =
     let z = joined more in
