@@ -27,7 +27,7 @@ HEAD = re.compile(rf'(?: {{2}}| {{4}})?(?:abbrev |unfoldable )?(?:pub )?(?:(?:da
 TYPE = re.compile(r'\s*(?:pub )?(?:data|record) ')
 DEFINITION = re.compile(r'\s*(?:abbrev |unfoldable |(?:pub )?(?:data|record) )')
 BETWEEN = re.compile(r'[\s(){}\[\],;⌜⌝]+')
-CONTRACT = re.compile(r'\bfn (\w+)(?:<[^>]*>)?\([^)]*\)(?: -> [^\n]*)?((?:\n    .*)+)\n\{')
+CONTRACT = re.compile(r'\bfn (\w+)(?:<[^>]*>)?\((?:[^()]|\([^()]*\))*\)(?: -> [^\n]*)?((?:\n    .*)+)\n\{')
 
 
 # ---- files and their declarations
