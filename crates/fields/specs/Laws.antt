@@ -1,18 +1,18 @@
 -- What follows from the definitions, for this crate and every layer above. To be cited first:
---   Table    table-facts, facts-table: a sound table and the facts of what it shows
+--   Table    table_facts, facts_table: a sound table and the facts of what it shows
 --   Sound    the record of those facts, a field for each clause; live and free rows
---   There    live-there, used-there: what is live has a seat, a slot, a row
+--   There    live_there, used_there: what is live has a seat, a slot, a row
 --   Asked    what the functions ask of their callers, from soundness and a test
 --   Find     what a look-up of a slot or a process row gives, and that it finds what is there
---   Tab      tab-of, tab-found: ids and the tabs they name
---   First    first-left, first-slot: a seat without tabs
---   Fresh    fresh-tenant, fresh-options, fresh-fields, fresh-sound
---   Opened   opened-joins, opened-renews: every field after an open; opened-sound
---   Closed   closed-leaves, closed-ends: every field after a close; closed-sound
---   Waited   every field after a selection and after a mark; picked-sound, marked-sound, unmarked-sound
---   Marks    mark-set, mark-gone: one mark leaves the other
+--   Tab      tab_of_lem, tab_found: ids and the tabs they name
+--   First    first_left, first_slot: a seat without tabs
+--   Fresh    fresh_tenant, fresh_options, fresh_fields, fresh_sound
+--   Opened   opened_joins, opened_renews: every field after an open; opened_sound
+--   Closed   closed_leaves, closed_ends: every field after a close; closed_sound
+--   Waited   every field after a selection and after a mark; picked_sound, marked_sound, unmarked_sound
+--   Marks    mark_set, mark_gone: one mark leaves the other
 --   Room     room: a free slot leaves a free process row; what fits
---   Cover    form-covers, view-ext: no byte of a table is left out, and a table of bytes is what it shows
+--   Cover    form_covers, view_ext: no byte of a table is left out, and a table of bytes is what it shows
 -- Each, Sum, Lowest, Bits, Series and Few are laws of the words in Base. View, Layout, Form and Cover are the bytes; with Can and
 -- Tab they are the laws that know the layout. Clause, Facts and Holds prove that the test of soundness and the record
 -- agree, GoodParts and Good that the code's way is the document's; Letters tells a name by the 64 letters of its room. Seats, Rows,
