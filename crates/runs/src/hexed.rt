@@ -1,6 +1,6 @@
 // Bytes as lower-case hex, read and written.
 ghost use Rattle.std.specs.Prelude.{◌≤◌};
-ghost use Rattle.runs.specs.Front.{IsPrefixLen};
+ghost use Rattle.reader.specs.Front.{IsPrefixLen};
 
 use crate::say;
 use terms::byte::wide;

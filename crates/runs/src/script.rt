@@ -1,6 +1,6 @@
 // A script on standard input.
 ghost use Rattle.std.specs.Prelude.{◌≡◌, length};
-ghost use Rattle.runs.specs.Front.{IsPrefixLen};
+ghost use Rattle.reader.specs.Front.{IsPrefixLen};
 
 use crate::say;
 use crate::shape::place_in;

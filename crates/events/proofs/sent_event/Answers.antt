@@ -11,7 +11,7 @@ returns-then-party-eq2 c = by_tab _ _ _ _ c.if-party-eq2.true c.tab_event.ensure
 pub returns-then-not-is_delivery : goal.returns-then-not-is_delivery
 returns-then-not-is_delivery c =
     by_unfit _ _ _ _ c.if-party-eq1.false c.if-party-eq2.false c.is_delivery.ensures
-    (c.if-not-is_delivery.true)
+    c.if-not-is_delivery.true
 
 pub returns-then-party-eq3 : goal.returns-then-party-eq3
 returns-then-party-eq3 c =

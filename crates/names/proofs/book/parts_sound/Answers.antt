@@ -22,7 +22,7 @@ returns-then-not-are_sound c =
     let b = c.args.b.now in
     let e : sound_orders (orders b) ≡ false =
     orders_read b orders-count.result c.are_sound.result false
-    orders-count.ensures.0 c.are_sound.ensures (c.if-not-are_sound.true) in
+    orders-count.ensures.0 c.are_sound.ensures c.if-not-are_sound.true in
     sym (rw (e, and-false))
 
 pub returns : goal.returns
@@ -33,7 +33,7 @@ returns c =
     let b = c.args.b.now in
     let e : sound_orders (orders b) ≡ true =
     orders_read b orders-count.result are-sound.result true
-    orders-count.ensures.0 are-sound.ensures (c.if-not-are_sound.false) in
+    orders-count.ensures.0 are-sound.ensures c.if-not-are_sound.false in
     let j : names_at b ≡ order_size * orders_count b = omega arith in
     rest b from.result c.names_count.result (length b - trailer_size) c.are_sound-2.result
     from.ensures.0 c.names_count.ensures.0 (sym (trailer_is b)) j e c.are_sound-2.ensures

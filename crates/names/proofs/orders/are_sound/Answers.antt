@@ -11,7 +11,7 @@ returns-then-not-is_order c =
     let loop = c.loop-left in
     let more = c.loop-left-test.true in
     sym (loop.invariant.1
-    ∙ chain_illegal _ _ _ _ more c.order_at-o.ensures c.is_order.ensures (c.if-not-is_order.true))
+    ∙ chain_illegal _ _ _ _ more c.order_at-o.ensures c.is_order.ensures c.if-not-is_order.true)
 
 pub returns-then-seat-last : goal.returns-then-seat-last
 returns-then-seat-last c =
@@ -19,7 +19,7 @@ returns-then-seat-last c =
     let more = c.loop-left-test.true in
     sym (loop.invariant.1
     ∙ chain_falls _ _ _ _ more c.order_at-o.ensures c.is_order.ensures
-    (c.if-not-is_order.false) c.if-seat-last.true)
+    c.if-not-is_order.false c.if-seat-last.true)
 
 pub loop-left-preserved : goal.loop-left-preserved
 loop-left-preserved c =
@@ -28,7 +28,7 @@ loop-left-preserved c =
       omega arith,
       loop.invariant.1
           ∙ chain_rises _ _ _ _ more c.order_at-o.ensures c.is_order.ensures
-          (c.if-not-is_order.false) (omega arith),
+          c.if-not-is_order.false (omega arith),
     )
 
 pub returns : goal.returns

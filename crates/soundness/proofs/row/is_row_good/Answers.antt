@@ -1,12 +1,11 @@
 -- A free row is good if it is empty. Each other exit decides the conjunction by the tests made so far. Assumes nothing.
--- a row that has a number is live
--- a test that passed
 use Rattle.std.proofs.Common.{Bool, refl, sym, true, ◌∙◌, ◌≡◌}
 use Rattle.fields.specs.Table.{view, used}
 use Rattle.fields.specs.Steps.Row.{used_if, unused_if, row_spared, row_free, row_over, row_formed_lem, row_unformed, row_unfilled}
 use Rattle.fields.specs.Steps.Row.{row_untrue, row_new}
 use Rattle.soundness.proofs.row.is_row_good.Goals as goal
 
+-- a test that passed
 passed : {r a : Bool} → r ≡ a → r ≡ true → a ≡ true
 passed e h = sym e ∙ h
 
