@@ -97,7 +97,7 @@ pub fn is_sound(b: &[u8]) -> bool
 }
 
 // What a sound book says of a seat.
-pub fn letting_of(b: &[u8], seat: u8) -> Letting
+pub fn letting_of(b: &[u8], seat: u8) -> Option<Letting>
     requires { sound_book b.now ≡ true }
     ensures { result ≡ letting_of seat (book_orders b.now) }
 {

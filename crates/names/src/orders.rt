@@ -3,23 +3,19 @@ ghost use Rattle.std.specs.Prelude.{◌≡◌, ◌+◌, ◌*◌, ◌≤◌, ◌<
 ghost use Rattle.terms.specs.Names.{letting_of};
 ghost use Rattle.terms.specs.Inner.{order_size, is_order, order_at, orders_from, sound_orders};
 
-use terms::byte::is_within;
 use terms::order::{Letting, Order, are_legal_options};
 
 // How many bytes an order has.
 pub(crate) const ORDER: usize = 3;
 
+#[tactic(auto, using(terms::specs::Steps::Order::order_is, std::proofs::lemmas::Bool::Decides::nat_tests))]
 fn is_order(o: Order) -> bool
     ensures { result ≡ is_order o }
 {
-    if is_within(1, 8, o.seat) {
-        if is_within(1, 99, o.tenant) {
-            return are_legal_options(o.options);
-        }
-    }
-    false
+    (1..=8).contains(&o.seat) && (1..=99).contains(&o.tenant) && are_legal_options(o.options)
 }
 
+#[tactic(auto, using(terms::specs::Steps::Order::order_at_is))]
 fn order_at(b: &[u8], at: usize) -> Order
     requires { at + 2 < length b.now }
     ensures { result ≡ order_at b.now at }
@@ -32,45 +28,35 @@ fn order_at(b: &[u8], at: usize) -> Order
 }
 
 // The first orders of a book, as many as it counts, are sound.
+#[tactic(auto, using(terms::specs::Steps::Order::chained, std::proofs::lemmas::Bool::Decides::nat_tests))]
 pub(crate) fn are_sound(b: &[u8], count: usize) -> bool
     requires { order_size * count ≤ length b.now }
     ensures { result ≡ sound_orders (orders_from b.now 0 count) }
 {
-    let mut at = 0;
-    let mut left = count;
-    let mut last = 0u8;
-    while 0 < left {
-        let o = order_at(b, at);
-        let seat = o.seat;
-        if !is_order(o) {
+    let mut last = 0;
+    for i in 0..count {
+        let o = order_at(b, ORDER * i);
+        if !is_order(o) || o.seat <= last {
             return false;
         }
-        if seat <= last {
-            return false;
-        }
-        last = seat;
-        at += ORDER;
-        left -= 1;
+        last = o.seat;
     }
     true
 }
 
-pub(crate) fn letting_of(b: &[u8], count: usize, seat: u8) -> Letting
+#[tactic(auto, using(terms::specs::Steps::Order::saying, std::proofs::lemmas::Bool::Decides::nat_tests))]
+pub(crate) fn letting_of(b: &[u8], count: usize, seat: u8) -> Option<Letting>
     requires { order_size * count ≤ length b.now }
     ensures { result ≡ letting_of seat (orders_from b.now 0 count) }
 {
-    let mut at = 0;
-    let mut left = count;
-    while 0 < left {
-        let o = order_at(b, at);
+    for i in 0..count {
+        let o = order_at(b, ORDER * i);
         if o.seat == seat {
-            return Letting::Let {
+            return Some(Letting {
                 tenant: o.tenant,
                 options: o.options,
-            };
+            });
         }
-        at += ORDER;
-        left -= 1;
     }
-    Letting::NotLet
+    None
 }

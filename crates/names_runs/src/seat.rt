@@ -12,10 +12,10 @@ pub fn say_owner(rt: &impl Print, seat: u8, tenant: u8, options: u8) {
     say::end(rt);
 }
 
-fn say_letting(rt: &impl Print, l: Letting, seat: u8, label: &[u8]) {
+fn say_letting(rt: &impl Print, l: Option<Letting>, seat: u8, label: &[u8]) {
     match l {
-        Letting::NotLet => say::told(rt, label, b"not let"),
-        Letting::Let { tenant, options } => {
+        None => say::told(rt, label, b"not let"),
+        Some(Letting { tenant, options }) => {
             say::text(rt, label);
             say::text(rt, b" tenant");
             say::spaced(rt, wide(tenant));

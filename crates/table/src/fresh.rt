@@ -1,6 +1,6 @@
 // A fresh table: zeros, the trailer, and the seats as a sound book orders them.
 ghost use Rattle.std.specs.Prelude.{◌≡◌, true, ◌+◌, length};
-ghost use Rattle.terms.specs.Names.{sound_book, tenant_of, options_of};
+ghost use Rattle.terms.specs.Names.{sound_book};
 ghost use Rattle.fields.specs.Table.{table_bytes, fresh};
 ghost use Rattle.fields.specs.Inner.{Left, ordered, Orderable};
 
@@ -8,32 +8,15 @@ use fields::layout::{SEATS, set_options, set_tenant, wipe};
 use names::book::letting_of;
 use terms::order::Letting;
 
-fn tenant_of(l: Letting) -> u8
-    ensures { result ≡ tenant_of l }
-{
-    match l {
-        Letting::NotLet => 0,
-        Letting::Let { tenant, options } => tenant,
-    }
-}
-
-fn options_of(l: Letting) -> u8
-    ensures { result ≡ options_of l }
-{
-    match l {
-        Letting::NotLet => 0,
-        Letting::Let { tenant, options } => options,
-    }
-}
-
 // Seats 1 to n are ordered; seat n + 1 is next.
 fn order_next(t: &mut [u8], book: &[u8], n: usize)
     requires { Orderable t.old book.now n }
     ensures { Left t.new (ordered book.now (n + 1)) }
 {
     let s = n + 1;
-    set_tenant(t, s, tenant_of(letting_of(book, s as u8)));
-    set_options(t, s, options_of(letting_of(book, s as u8)));
+    let Letting { tenant, options } = letting_of(book, s as u8).unwrap_or_default();
+    set_tenant(t, s, tenant);
+    set_options(t, s, options);
 }
 
 // The table of a book, whatever was there before.

@@ -2,6 +2,7 @@
 -- two; the layers above use Laws.
 pub mod Walk
 pub mod Fold
+pub mod Under
 pub mod Order
 pub mod Listed
 pub mod Book

@@ -1,31 +1,25 @@
 // The name rule.
-ghost use Rattle.std.specs.Prelude.{◌≡◌};
+ghost use Rattle.std.specs.Prelude.{◌≡◌, Some};
 ghost use Rattle.terms.specs.Names.{is_name};
+ghost use Rattle.terms.specs.Inner.{fresh, walk};
 
-use crate::walk::{Label, Walk, class_of, is_whole, next_of};
+use crate::walk::{Class, Label};
 
+// The last label of some bytes, if a name begins with them.
+#[tactic(auto, using(crate::specs::Steps::Walk::walking))]
+fn walk(s: &[u8]) -> Option<Label>
+    ensures { result ≡ walk (Some fresh) s.now }
+{
+    let mut l = Label::fresh();
+    for x in s {
+        l = l.next(Class::from(*x))?;
+    }
+    Some(l)
+}
+
+#[tactic(auto, using(crate::specs::Steps::Walk::name_is, std::proofs::lemmas::Bool::Decides::nat_tests))]
 pub fn is_name(s: &[u8]) -> bool
     ensures { result ≡ is_name s.now }
 {
-    if s.len() < 1 {
-        return false;
-    }
-    if 253 < s.len() {
-        return false;
-    }
-    let mut l = Label {
-        len: 0,
-        hyphen: false,
-        digits: true,
-    };
-    let mut i = 0;
-    while i < s.len() {
-        let w = next_of(l, class_of(s[i]));
-        let Walk::On(m) = w else {
-            return false;
-        };
-        l = m;
-        i += 1;
-    }
-    if is_whole(l) { !l.digits } else { false }
+    (1..=253).contains(&s.len()) && walk(s).is_some_and(|l| l.is_whole() && !l.digits)
 }

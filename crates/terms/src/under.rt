@@ -4,6 +4,7 @@ ghost use Rattle.terms.specs.Names.{under};
 
 use crate::fold::is_same;
 
+#[tactic(auto, using(crate::specs::Steps::Under::under_is, std::proofs::lemmas::Bool::Decides::nat_tests))]
 pub fn is_under(h: &[u8], t: &[u8]) -> bool
     ensures { result ≡ under h.now t.now }
 {
@@ -11,10 +12,5 @@ pub fn is_under(h: &[u8], t: &[u8]) -> bool
         return is_same(h, t);
     }
     let from = h.len() - t.len();
-    let dotted = h[from - 1] == b'.';
-    if dotted {
-        is_same(&h[from..], t)
-    } else {
-        false
-    }
+    h[from - 1] == b'.' && is_same(&h[from..], t)
 }

@@ -1,8 +1,6 @@
 // A name read from byte to byte: what is known of the label so far, and what a byte makes of it.
 ghost use Rattle.std.specs.Prelude.{◌≡◌};
-ghost use Rattle.terms.specs.Inner.{is_letter, is_digit, class_of, grown, is_whole, next};
-
-use crate::byte::is_within;
+ghost use Rattle.terms.specs.Inner.{class_of, fresh, grown, is_whole, next};
 
 // What a byte is to a name.
 #[derive(Clone, Copy)]
@@ -14,6 +12,21 @@ pub(crate) enum Class {
     Other,
 }
 
+impl From<u8> for Class {
+    ghost from_gives = { λ x c. c ≡ class_of x };
+
+    #[tactic(auto, using(crate::specs::Steps::Walk::class_is, std::proofs::lemmas::Bool::Decides::nat_tests))]
+    fn from(x: u8) -> Class {
+        match x {
+            b'.' => Class::Dot,
+            b'-' => Class::Hyphen,
+            b'0'..=b'9' => Class::Digit,
+            b'a'..=b'z' | b'A'..=b'Z' => Class::Letter,
+            _ => Class::Other,
+        }
+    }
+}
+
 // The bytes since the last dot: how many, whether the last is a hyphen, whether all are digits.
 #[derive(Clone, Copy)]
 pub(crate) struct Label {
@@ -22,90 +35,50 @@ pub(crate) struct Label {
     pub(crate) digits: bool,
 }
 
-#[derive(Clone, Copy)]
-pub(crate) enum Walk {
-    On(Label),
-    Off,
-}
+impl Label {
+    // Before its first byte.
+    #[tactic(auto, using(crate::specs::Steps::Walk::fresh_is))]
+    pub(crate) fn fresh() -> Label
+        ensures { result ≡ fresh }
+    {
+        Label {
+            len: 0,
+            hyphen: false,
+            digits: true,
+        }
+    }
 
-fn is_letter(x: u8) -> bool
-    ensures { result ≡ is_letter x }
-{
-    if is_within(b'a', b'z', x) {
-        return true;
-    }
-    is_within(b'A', b'Z', x)
-}
-
-fn is_digit(x: u8) -> bool
-    ensures { result ≡ is_digit x }
-{
-    is_within(b'0', b'9', x)
-}
-
-pub(crate) fn class_of(x: u8) -> Class
-    ensures { result ≡ class_of x }
-{
-    if x == b'.' {
-        return Class::Dot;
-    }
-    if x == b'-' {
-        return Class::Hyphen;
-    }
-    if is_digit(x) {
-        return Class::Digit;
-    }
-    if is_letter(x) {
-        return Class::Letter;
-    }
-    Class::Other
-}
-
-#[tactic(auto, using(crate::specs::Steps::Walk::grown_is, std::proofs::lemmas::Bool::Decides::nat_tests))]
-fn grow(l: Label, hyphen: bool, digits: bool) -> Walk
-    ensures { result ≡ grown l hyphen digits }
-{
-    if l.len < 63 {
-        Walk::On(Label {
-            len: l.len + 1,
+    // One byte more, if there is room for it.
+    #[tactic(auto, using(crate::specs::Steps::Walk::grown_is, std::proofs::lemmas::Bool::Decides::nat_tests))]
+    fn grown(self, hyphen: bool, digits: bool) -> Option<Label>
+        ensures { result ≡ grown self hyphen digits }
+    {
+        (self.len < 63).then(|| Label {
+            len: self.len + 1,
             hyphen,
             digits,
         })
-    } else {
-        Walk::Off
     }
-}
 
-pub(crate) fn is_whole(l: Label) -> bool
-    ensures { result ≡ is_whole l }
-{
-    if 0 < l.len { !l.hyphen } else { false }
-}
+    // It may end here.
+    #[tactic(auto, using(crate::specs::Steps::Walk::whole_is, std::proofs::lemmas::Bool::Decides::nat_tests))]
+    pub(crate) fn is_whole(self) -> bool
+        ensures { result ≡ is_whole self }
+    {
+        0 < self.len && !self.hyphen
+    }
 
-pub(crate) fn next_of(l: Label, c: Class) -> Walk
-    ensures { result ≡ next l c }
-{
-    match c {
-        Class::Dot => {
-            if is_whole(l) {
-                Walk::On(Label {
-                    len: 0,
-                    hyphen: false,
-                    digits: true,
-                })
-            } else {
-                Walk::Off
-            }
+    // The label after a byte, if a name goes on with that.
+    #[tactic(auto, using(crate::specs::Steps::Walk::next_is, std::proofs::lemmas::Bool::Decides::nat_tests))]
+    pub(crate) fn next(self, c: Class) -> Option<Label>
+        ensures { result ≡ next self c }
+    {
+        match c {
+            Class::Dot if self.is_whole() => Some(Label::fresh()),
+            Class::Hyphen if 0 < self.len => self.grown(true, false),
+            Class::Digit => self.grown(false, self.digits),
+            Class::Letter => self.grown(false, false),
+            _ => None,
         }
-        Class::Hyphen => {
-            if 0 < l.len {
-                grow(l, true, false)
-            } else {
-                Walk::Off
-            }
-        }
-        Class::Digit => grow(l, false, l.digits),
-        Class::Letter => grow(l, false, false),
-        Class::Other => Walk::Off,
     }
 }

@@ -1,14 +1,12 @@
 -- What the walk knows of a label: of the bytes p read since the last dot, their number, whether the last is a hyphen and
 -- whether all are digits; and that p may begin a label. One byte more keeps that, or p with it begins no label.
 -- Assumes nothing.
-use Rattle.std.specs.Prelude.{◌≡◌, refl, Bool, true, false, not, ◌&&◌, cond, List, [], ◌∷◌, ◌++◌, ℕ, suc, ◌+◌, ◌-◌, length, leb, ltb, eqb}
+use Rattle.std.specs.Prelude.{Option, Some, None, ◌≡◌, refl, Bool, true, false, not, ◌&&◌, cond, List, [], ◌∷◌, ◌++◌, ℕ, suc, ◌+◌, ◌-◌, length, leb, ltb, eqb}
 use Rattle.std.proofs.Common.{sym, ap, subst, ◌∙◌, append_assoc, add-one, arith, length-append, lt-ltb, le-leb, eqb-true}
 use Rattle.std.proofs.lemmas.Bool.{false≢true, not-true}
 use Rattle.std.proofs.Math.Bool.{and-true, and-false, or-true}
 use Rattle.std.proofs.Math.Seq.{get_or-append_seam}
 use Rattle.terms.specs.declared.walk.Label.{Label}
-use Rattle.terms.specs.declared.walk.Walk.{Walk}
-use Rattle.terms.specs.declared.walk.Walk.TheVariants.{On, Off}
 use Rattle.terms.specs.Base.{within, every}
 use Rattle.terms.specs.Rule.Name.{is_letter, is_digit, is_label_byte, begins, ends, is_label}
 use Rattle.terms.specs.Walk.{class_of, fresh, grown, is_whole, next, may_end}
@@ -85,19 +83,19 @@ opens_snoc p x o =
 
 -- ---- one byte more
 
-hyphen_case : (a b : Bool) (w : Walk) → cond a (cond b w Off) Off ≡ cond (b && true && not (cond a false true)) w Off
+hyphen_case : (a b : Bool) (w : Option Label) → cond a (cond b w None) None ≡ cond (b && true && not (cond a false true)) w None
 hyphen_case true true w = refl
 hyphen_case true false w = refl
 hyphen_case false true w = refl
 hyphen_case false false w = refl
 
-byte_case : (a b : Bool) (w : Walk) → cond b w Off ≡ cond (b && true && not (cond a false false)) w Off
+byte_case : (a b : Bool) (w : Option Label) → cond b w None ≡ cond (b && true && not (cond a false false)) w None
 byte_case true true w = refl
 byte_case true false w = refl
 byte_case false true w = refl
 byte_case false false w = refl
 
-other_case : (a b : Bool) (w : Walk) → Off ≡ cond (b && false && not (cond a false false)) w Off
+other_case : (a b : Bool) (w : Option Label) → None ≡ cond (b && false && not (cond a false false)) w None
 other_case a true w = refl
 other_case a false w = refl
 
@@ -105,7 +103,7 @@ less : (n : ℕ) → ltb n 63 ≡ leb (n + 1) 63
 less n = ap (λ (m : ℕ). leb m 63) (sym (add-one n))
 
 -- a hyphen goes into the label where it may
-next_hyphen : (p : List ℕ) → opens p ≡ true → next (state p) (class_of 45) ≡ cond (opens (snoc p 45)) (On (state (snoc p 45))) Off
+next_hyphen : (p : List ℕ) → opens p ≡ true → next (state p) (class_of 45) ≡ cond (opens (snoc p 45)) (Some (state (snoc p 45))) None
 unfolding next grown class_of is_label_byte is_digit is_letter state
 next_hyphen p o =
     rw (opens_snoc p 45 o, length_snoc p 45, ends_snoc p 45 45, every_snoc is_digit p 45, and-false, ← less (length p))
@@ -113,14 +111,14 @@ next_hyphen p o =
 
 -- and so does any byte that is no dot
 pub next_state : (p : List ℕ) (x : ℕ) → opens p ≡ true → eqb x 46 ≡ false
-    → next (state p) (class_of x) ≡ cond (opens (snoc p x)) (On (state (snoc p x))) Off
+    → next (state p) (class_of x) ≡ cond (opens (snoc p x)) (Some (state (snoc p x))) None
 unfolding next grown class_of is_label_byte state
 next_state p x o d = go (eqb x 45) (is_digit x) (is_letter x) refl refl refl
   where
     go : (h g l : Bool) → eqb x 45 ≡ h → is_digit x ≡ g → is_letter x ≡ l
-        → next (state p) (class_of x) ≡ cond (opens (snoc p x)) (On (state (snoc p x))) Off
+        → next (state p) (class_of x) ≡ cond (opens (snoc p x)) (Some (state (snoc p x))) None
     go true g l eh eg el =
-        subst (λ (y : ℕ). next (state p) (class_of y) ≡ cond (opens (snoc p y)) (On (state (snoc p y))) Off)
+        subst (λ (y : ℕ). next (state p) (class_of y) ≡ cond (opens (snoc p y)) (Some (state (snoc p y))) None)
         (sym (eqb-true x 45 eh)) (next_hyphen p o)
     go false true l eh eg el =
         simp (
@@ -158,7 +156,7 @@ unfolding is_whole is_label state
 whole_label p o = let k = opens_parts p o in simp (k.short, k.made, k.begun, and-true)
 
 -- a name may end with such a label, unless it is all digits
-pub end_label : (p : List ℕ) → opens p ≡ true → may_end (On (state p)) ≡ is_label p && not (every is_digit p)
+pub end_label : (p : List ℕ) → opens p ≡ true → may_end (Some (state p)) ≡ is_label p && not (every is_digit p)
 unfolding may_end state
 end_label p o = ap (λ (b : Bool). b && not (every is_digit p)) (whole_label p o)
 

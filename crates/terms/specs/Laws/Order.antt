@@ -1,7 +1,8 @@
 -- Laws of orders: what a sound list of them says of a seat is legal, and a separate seat shares its owner with no other.
 -- Assumes nothing.
-use Rattle.std.specs.Prelude.{◌≡◌, refl, Bool, true, false, ◌&&◌, cond, List, [], ◌∷◌, ℕ, ◌+◌, ◌≤◌, ◌<◌, eqb}
-use Rattle.std.proofs.Common.{ap, subst, ◌∙◌, arith, eqb-true, leb-true}
+use Rattle.std.specs.Prelude.{Option, Some, None, ◌≡◌, refl, Bool, true, false, ◌&&◌, cond, List, [], ◌∷◌, ℕ, ◌+◌, ◌≤◌, ◌<◌, eqb}
+use Rattle.std.specs.Option.{UnwrapsOrElse}
+use Rattle.std.proofs.Common.{sym, ap, subst, ◌∙◌, arith, eqb-true, leb-true}
 use Rattle.terms.specs.Base.{within, every, rising, Range}
 use Rattle.terms.specs.Rule.Order.{most_options, legal_options, is_separate, is_order, seat_before, sound_orders, letting_of}
 use Rattle.terms.specs.Rule.Order.{tenant_of, options_of, owner_of}
@@ -10,25 +11,31 @@ use Rattle.terms.specs.Laws.Bools.{and_left, and_right, cases, within_at}
 use Rattle.terms.specs.Laws.Book.{sound_parts}
 use Rattle.terms.specs.declared.order.Order.{Order}
 use Rattle.terms.specs.declared.order.Letting.{Letting}
-use Rattle.terms.specs.declared.order.Letting.TheVariants.{NotLet, Let}
 
 -- ---- the values of each case
 
-pub tenant_none : tenant_of NotLet ≡ 0
+pub tenant_none : tenant_of None ≡ 0
 unfolding tenant_of
 tenant_none = refl
 
-pub tenant_let : (t x : ℕ) → tenant_of (Let t x) ≡ t
+pub tenant_let : (l : Letting) → tenant_of (Some l) ≡ l.tenant
 unfolding tenant_of
-tenant_let t x = refl
+tenant_let l = refl
 
-pub options_none : options_of NotLet ≡ 0
+pub options_none : options_of None ≡ 0
 unfolding options_of
 options_none = refl
 
-pub options_let : (t x : ℕ) → options_of (Let t x) ≡ x
+pub options_let : (l : Letting) → options_of (Some l) ≡ l.options
 unfolding options_of
-options_let t x = refl
+options_let l = refl
+
+-- a letting, or zeros where there is none, has the values of each case
+pub or_zeros : (l : Option Letting) (r : Letting) → UnwrapsOrElse l (λ d. (d.tenant ≡ 0) × (d.options ≡ 0)) r
+    → (r.tenant ≡ tenant_of l) × (r.options ≡ options_of l)
+or_zeros None r p = (p.0 ∙ sym tenant_none, p.1 ∙ sym options_none)
+or_zeros (Some x) r p =
+    (ap (λ (l : Letting). l.tenant) p ∙ sym (tenant_let x), ap (λ (l : Letting). l.options) p ∙ sym (options_let x))
 
 -- ---- a sound order's parts
 
@@ -52,22 +59,27 @@ order_parts o e =
 -- ---- what sound orders say
 
 -- a seat is not let, or let to a tenant of 1 to 99 with legal options
-pub data Legal (seat : ℕ) : Letting → Type 0 where
-  legal_not_let : Legal seat NotLet
-  legal_let : {t x : ℕ} → Range 1 8 seat → Range 1 99 t → legal_options x ≡ true → Legal seat (Let t x)
+pub data Legal (seat : ℕ) : Option Letting → Type 0 where
+  legal_not_let : Legal seat None
+  legal_let : {l : Letting} → Range 1 8 seat → Range 1 99 l.tenant → legal_options l.options ≡ true → Legal seat (Some l)
 
-order_legal : (o : Order) (s : ℕ) → is_order o ≡ true → eqb o.seat s ≡ true → Legal s (Let o.tenant o.options)
+-- what an order says of its seat
+says : Order → Letting
+says o = record { tenant = o.tenant; options = o.options }
+
+order_legal : (o : Order) (s : ℕ) → is_order o ≡ true → eqb o.seat s ≡ true → Legal s (Some (says o))
+unfolding says
 order_legal o s e f =
     let p = order_parts o e in
     legal_let (subst (Range 1 8) (eqb-true o.seat s f) p.seat) p.tenant p.options
 
 every_legal : (os : List Order) (s : ℕ) → every is_order os ≡ true → Legal s (letting_of s os)
-unfolding every letting_of
+unfolding every letting_of says
 every_legal [] s e = legal_not_let
 every_legal (o ∷ os) s e = go (eqb o.seat s) refl (every_legal os s (and_right (is_order o) (every is_order os) e))
   where
     go : (b : Bool) → eqb o.seat s ≡ b → Legal s (letting_of s os)
-        → Legal s (cond b (Let o.tenant o.options) (letting_of s os))
+        → Legal s (cond b (Some (says o)) (letting_of s os))
     go true f l = order_legal o s (and_left (is_order o) (every is_order os) e) f
     go false f l = l
 
@@ -116,9 +128,9 @@ owner_by_is b s = refl
 pub tenant_range : (b : List ℕ) (s : ℕ) → sound_book b ≡ true → tenant_of (letting_of s (orders b)) ≤ 99
 tenant_range b s e = go (letting_legal b s e)
   where
-    go : {l : Letting} → Legal s l → tenant_of l ≤ 99
+    go : {l : Option Letting} → Legal s l → tenant_of l ≤ 99
     go legal_not_let = omega (arith, tenant_none)
-    go (legal_let {t = t} {x = x} r q o) = omega (arith, tenant_let t x, q.high)
+    go (legal_let {l = l} r q o) = omega (arith, tenant_let l, q.high)
 
 -- options: 0 is legal, and what is legal is a byte
 pub legal_none : legal_options 0 ≡ true
@@ -132,18 +144,18 @@ legal_lt x e = let a = leb-true x most_options e in omega arith
 pub options_legal : (b : List ℕ) (s : ℕ) → sound_book b ≡ true → legal_options (options_of (letting_of s (orders b))) ≡ true
 options_legal b s e = go (letting_legal b s e)
   where
-    go : {l : Letting} → Legal s l → legal_options (options_of l) ≡ true
+    go : {l : Option Letting} → Legal s l → legal_options (options_of l) ≡ true
     go legal_not_let = ap legal_options options_none ∙ legal_none
-    go (legal_let {t = t} {x = x} r q o) = ap legal_options (options_let t x) ∙ o
+    go (legal_let {l = l} r q o) = ap legal_options (options_let l) ∙ o
 
 -- a seat with no tenant is not let, and so has no option
 pub options_unlet : (b : List ℕ) (s : ℕ) → sound_book b ≡ true → tenant_of (letting_of s (orders b)) ≡ 0
     → options_of (letting_of s (orders b)) ≡ 0
 options_unlet b s e = go (letting_legal b s e)
   where
-    go : {l : Letting} → Legal s l → tenant_of l ≡ 0 → options_of l ≡ 0
+    go : {l : Option Letting} → Legal s l → tenant_of l ≡ 0 → options_of l ≡ 0
     go legal_not_let z = options_none
-    go (legal_let {t = t} {x = x} r q o) z = absurd (omega (arith, tenant_let t x, q.low))
+    go (legal_let {l = l} r q o) z = absurd (omega (arith, tenant_let l, q.low))
 
 -- in a sound book no other seat has the owner of a separate one
 pub owner_apart : (b : List ℕ) (s s' : ℕ) → sound_book b ≡ true → is_separate (options_of (letting_of s (orders b))) ≡ true

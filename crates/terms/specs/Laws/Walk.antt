@@ -1,11 +1,9 @@
 -- The walk from byte to byte reads a name by the rule of Rule.Name: `name_walk`. By induction over the bytes that are left,
 -- the walk from the label p may end exactly if their labels, with p before the first, are good. Assumes nothing.
-use Rattle.std.specs.Prelude.{◌≡◌, refl, Bool, true, false, not, ◌&&◌, cond, List, [], ◌∷◌, ◌++◌, ℕ, ◌+◌, ◌≤◌, ◌<◌, length, get_or, drop, eqb}
+use Rattle.std.specs.Prelude.{Option, Some, None, ◌≡◌, refl, Bool, true, false, not, ◌&&◌, cond, List, [], ◌∷◌, ◌++◌, ℕ, ◌+◌, ◌≤◌, ◌<◌, length, get_or, drop, eqb}
 use Rattle.std.proofs.Common.{sym, ap, subst, ◌∙◌, append-nil, add-one, drop_of_length-le, drop-cons, eqb-true}
 use Rattle.std.proofs.Math.Bool.{and-true, and_assoc}
 use Rattle.terms.specs.declared.walk.Label.{Label}
-use Rattle.terms.specs.declared.walk.Walk.{Walk}
-use Rattle.terms.specs.declared.walk.Walk.TheVariants.{On, Off}
 use Rattle.terms.specs.Base.{within, every, last_of}
 use Rattle.terms.specs.Rule.Name.{is_digit, is_label, onto, labels, is_address, is_name}
 use Rattle.terms.specs.Walk.{class_of, fresh, next, onward, walk, may_end}
@@ -16,15 +14,15 @@ use Rattle.terms.specs.Laws.Labels.{labels_some, labels_cons, labels_dot_cons}
 
 -- ---- the walk
 
-pub walk_step : (w : Walk) (s : List ℕ) (i : ℕ) → i < length s → walk w (drop i s) ≡ walk (onward w (get_or s i 0)) (drop (i + 1) s)
+pub walk_step : (w : Option Label) (s : List ℕ) (i : ℕ) → i < length s → walk w (drop i s) ≡ walk (onward w (get_or s i 0)) (drop (i + 1) s)
 unfolding walk
 walk_step w s i h = rw (add-one, drop-cons s i 0)
 
-pub walk_end : (w : Walk) (s : List ℕ) (i : ℕ) → length s ≤ i → walk w (drop i s) ≡ w
+pub walk_end : (w : Option Label) (s : List ℕ) (i : ℕ) → length s ≤ i → walk w (drop i s) ≡ w
 unfolding walk
 walk_end w s i h = rw (drop_of_length-le s h)
 
-pub walk_off : (s : List ℕ) → walk Off s ≡ Off
+pub walk_off : (s : List ℕ) → walk None s ≡ None
 unfolding walk onward
 walk_off [] = refl
 walk_off (x ∷ s) = walk_off s
@@ -62,18 +60,18 @@ good_shut q (l ∷ ls) o = rw (label_shut q l o)
 -- ---- the walk is the rule
 
 Reads : List ℕ → List ℕ → Type 0
-Reads s p = may_end (walk (On (state p)) s) ≡ good (before p (labels s))
+Reads s p = may_end (walk (Some (state p)) s) ≡ good (before p (labels s))
 
-reads_fresh : (s : List ℕ) → Reads s [] → may_end (walk (On fresh) s) ≡ good (labels s)
+reads_fresh : (s : List ℕ) → Reads s [] → may_end (walk (Some fresh) s) ≡ good (labels s)
 unfolding Reads
-reads_fresh s r = ap (λ (l : Label). may_end (walk (On l) s)) (sym state_none) ∙ r ∙ ap good (before_none s)
+reads_fresh s r = ap (λ (l : Label). may_end (walk (Some l) s)) (sym state_none) ∙ r ∙ ap good (before_none s)
 
 reads_end : (p : List ℕ) → opens p ≡ true → Reads [] p
 unfolding Reads walk good before labels every last_of
 reads_end p o = end_label p o ∙ rw (append-nil p, and-true)
 
-dot_case : (s : List ℕ) (b : Bool) → may_end (walk (On fresh) s) ≡ good (labels s)
-    → may_end (walk (cond b (On fresh) Off) s) ≡ b && good (labels s)
+dot_case : (s : List ℕ) (b : Bool) → may_end (walk (Some fresh) s) ≡ good (labels s)
+    → may_end (walk (cond b (Some fresh) None) s) ≡ b && good (labels s)
 unfolding may_end
 dot_case s true r = r
 dot_case s false r = ap may_end (walk_off s)
@@ -101,7 +99,7 @@ reads (x ∷ s) p o =
     (λ e. subst (λ (y : ℕ). Reads (y ∷ s) p) (sym (eqb-true x 46 e)) (reads_dot s p o (reads s [] opens_none)))
     (λ e. reads_byte s p x o e (reads s (snoc p x)))
 
-pub name_walk : (s : List ℕ) → is_name s ≡ within 1 253 (length s) && may_end (walk (On fresh) s)
+pub name_walk : (s : List ℕ) → is_name s ≡ within 1 253 (length s) && may_end (walk (Some fresh) s)
 unfolding is_name is_address good
 name_walk s =
     and_assoc (within 1 253 (length s)) (every is_label (labels s)) (not (every is_digit (last_of (labels s))))

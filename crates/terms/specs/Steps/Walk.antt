@@ -1,27 +1,18 @@
 -- Equations of the classes and labels that src/walk.rt and src/name.rt go by, and the step of a search for a dot.
 -- Assumes nothing.
-use Rattle.std.specs.Prelude.{◌≡◌, refl, Bool, true, false, not, ◌&&◌, ◌||◌, cond, List, ℕ, ◌+◌, ◌≤◌, ◌<◌, length, get_or, drop, ltb, eqb}
-use Rattle.std.proofs.Common.{◌∙◌}
+use Rattle.std.specs.Prelude.{Some, None, ◌≡◌, refl, Bool, true, false, not, ◌&&◌, ◌||◌, cond, List, ℕ, ◌+◌, ◌≤◌, ◌<◌, length, get_or, drop, ltb, eqb}
 use Rattle.terms.specs.Base.{within}
-use Rattle.terms.specs.Rule.Name.{is_letter, is_digit, is_name, has_dot}
+use Rattle.terms.specs.Rule.Name.{is_letter, is_digit, has_dot}
 use Rattle.terms.specs.Walk.{class_of, fresh, grown, is_whole, next, onward, walk, may_end}
 use Rattle.terms.specs.Laws.Lists.{some_step, some_end}
 use Rattle.terms.specs.Laws.Walk.{walk_step, walk_end, walk_off, name_walk}
 use Rattle.terms.specs.declared.walk.Class.TheVariants.{Dot, Hyphen, Digit, Letter, Other}
 use Rattle.terms.specs.declared.walk.Label.{Label}
-use Rattle.terms.specs.declared.walk.Walk.TheVariants.{On, Off}
-
-pub letter_is : (x : ℕ) → is_letter x ≡ within 97 122 x || within 65 90 x
-unfolding is_letter
-letter_is x = refl
-
-pub digit_is : (x : ℕ) → is_digit x ≡ within 48 57 x
-unfolding is_digit
-digit_is x = refl
 
 pub class_is : (x : ℕ)
-    → class_of x ≡ cond (eqb x 46) Dot (cond (eqb x 45) Hyphen (cond (is_digit x) Digit (cond (is_letter x) Letter Other)))
-unfolding class_of
+    → class_of x
+    ≡ cond (eqb x 46) Dot (cond (eqb x 45) Hyphen (cond (within 48 57 x) Digit (cond (within 97 122 x || within 65 90 x) Letter Other)))
+unfolding class_of is_digit is_letter
 class_is x = refl
 
 pub fresh_is : fresh ≡ record { len = 0; hyphen = false; digits = true }
@@ -29,7 +20,7 @@ unfolding fresh
 fresh_is = refl
 
 pub grown_is : (l : Label) (h d : Bool)
-    → grown l h d ≡ cond (ltb l.len 63) (On (record { len = l.len + 1; hyphen = h; digits = d })) Off
+    → grown l h d ≡ cond (ltb l.len 63) (Some (record { len = l.len + 1; hyphen = h; digits = d })) None
 unfolding grown
 grown_is l h d = refl
 
@@ -38,11 +29,11 @@ unfolding is_whole
 whole_is l = refl
 
 -- what each class makes of a label
-pub next_dot : (l : Label) → next l Dot ≡ cond (is_whole l) (On (record { len = 0; hyphen = false; digits = true })) Off
-unfolding next fresh
+pub next_dot : (l : Label) → next l Dot ≡ cond (is_whole l) (Some fresh) None
+unfolding next
 next_dot l = refl
 
-pub next_hyphen : (l : Label) → next l Hyphen ≡ cond (ltb 0 l.len) (grown l true false) Off
+pub next_hyphen : (l : Label) → next l Hyphen ≡ cond (ltb 0 l.len) (grown l true false) None
 unfolding next
 next_hyphen l = refl
 
@@ -54,19 +45,17 @@ pub next_letter : (l : Label) → next l Letter ≡ grown l false false
 unfolding next
 next_letter l = refl
 
-pub next_other : (l : Label) → next l Other ≡ Off
+pub next_other : (l : Label) → next l Other ≡ None
 unfolding next
 next_other l = refl
 
-pub onward_on : (l : Label) (x : ℕ) → onward (On l) x ≡ next l (class_of x)
-unfolding onward
-onward_on l x = refl
+pub ruleset next_is = (next_dot, next_hyphen, next_digit, next_letter, next_other)
 
-pub end_on : (l : Label) → may_end (On l) ≡ is_whole l && not l.digits
+pub end_on : (l : Label) → may_end (Some l) ≡ is_whole l && not l.digits
 unfolding may_end
 end_on l = refl
 
-pub end_off : may_end Off ≡ false
+pub end_off : may_end None ≡ false
 unfolding may_end
 end_off = refl
 
@@ -78,15 +67,15 @@ pub dot_end : (s : List ℕ) (i : ℕ) → length s ≤ i → has_dot (drop i s)
 unfolding has_dot
 dot_end s i h = some_end (λ x. eqb x 46) s i h
 
--- ---- the loop of is_name, with i bytes read
+-- ---- the loop of walk, with i bytes read
 
--- a byte that no name goes on with
-pub name_off : (s : List ℕ) (i : ℕ) (l : Label) → within 1 253 (length s) ≡ true → walk (On fresh) s ≡ walk (On l) (drop i s)
-    → i < length s → onward (On l) (get_or s i 0) ≡ Off → is_name s ≡ false
-name_off s i l w e h k =
-    name_walk s ∙ rw (w, e, walk_step (On l) s i h, k, walk_off (drop (i + 1) s)) end_off
+pub walk_on : (l : Label) (s : List ℕ) (i : ℕ) → i < length s
+    → walk (Some l) (drop i s) ≡ walk (next l (class_of (get_or s i 0))) (drop (i + 1) s)
+unfolding onward
+walk_on l s i h = walk_step (Some l) s i h
 
--- all bytes read
-pub name_at_end : (s : List ℕ) (i : ℕ) (l : Label) → within 1 253 (length s) ≡ true → walk (On fresh) s ≡ walk (On l) (drop i s)
-    → length s ≤ i → is_name s ≡ is_whole l && not l.digits
-name_at_end s i l w e h = name_walk s ∙ rw (w, e, walk_end (On l) s i h) (end_on l)
+pub ruleset walking = (walk_on, walk_end, walk_off)
+
+-- ---- a name
+
+pub ruleset name_is = (name_walk, end_on, end_off)
