@@ -24,6 +24,7 @@ pub mod Lowest
 pub mod Bits
 pub mod Series
 pub mod Few
+pub mod Chains
 pub mod View
 pub mod Layout
 pub mod Form

@@ -12,12 +12,9 @@ fn count_seat(t: &[u8], s: usize, counts: &mut [u8; 81])
     requires { (SeatOf t.now s) × (seat_good most_opens (view t.now) s ≡ true) × (TabCounts (view t.now) (s - 1) counts.old) }
     ensures { TabCounts (view t.now) s counts.new }
 {
-    let mut k: usize = 0;
-    while k < SLOTS {
-        k += 1;
+    for k in 1..SLOTS + 1 {
         if is_live(t, s, k) {
-            let p = row(t, s, k);
-            counts[p] += 1;
+            counts[row(t, s, k)] += 1;
         }
     }
 }
@@ -27,22 +24,18 @@ pub(crate) fn count_tabs(t: &[u8]) -> [u8; 81]
     ensures { TabCounts (view t.now) 8 result }
 {
     let mut counts = [0u8; 81];
-    let mut s: usize = 0;
-    while s < SEATS {
-        s += 1;
+    for s in 1..SEATS + 1 {
         count_seat(t, s, &mut counts);
     }
     counts
 }
 
 // The tab count of a live row is true and not 0. `n` is how many tabs point at it.
+#[tactic(auto, using(fields::specs::Steps::Count::true_is))]
 pub(crate) fn are_tabs_true(t: &[u8], p: usize, n: usize) -> bool
     requires { (RowOf t.now p) × (used (view t.now) p ≡ true) × (n ≡ pointing (view t.now) p) }
     ensures { result ≡ tabs_true (view t.now) p }
 {
     let m = tabs(t, p);
-    if m == 0 {
-        return false;
-    }
-    m == n
+    m != 0 && m == n
 }

@@ -15,21 +15,13 @@ use crate::seat::{are_seats_good, sum_of_opens};
 use fields::layout::{are_offsets_given, is_long, last};
 
 // Sound, for any bytes. Seats come first: where they are good, a live tab hangs on a live row, and tabs are counted at their rows.
+#[tactic(auto, using(fields::specs::Steps::Sound::sound_is))]
 pub fn sound(t: &[u8]) -> bool
     ensures { result ≡ sound_table t.now }
 {
-    if !is_long(t) {
-        return false;
-    }
-    if !are_offsets_given(t) {
-        return false;
-    }
-    if !are_seats_good(t) {
-        return false;
-    }
-    if sum_of_opens(t) < last(t) {
-        return false;
-    }
-    let counts = count_tabs(t);
-    are_rows_good(t, &counts)
+    is_long(t)
+        && are_offsets_given(t)
+        && are_seats_good(t)
+        && last(t) <= sum_of_opens(t)
+        && are_rows_good(t, &count_tabs(t))
 }

@@ -161,15 +161,19 @@ bits_ext n f g h =
     (λ k r. ap (λ (b : Bool). one b * 2 ^ (k - 1)) (h k r))
     ∙ sym (bits_sum n g)
 
--- ---- a loop that builds the map from the rows: w is the weight of the next bit
+-- ---- a loop that builds the map from the rows: m has the bits below k, and k is next
 
 pub bits_none : (f : ℕ → Bool) → bits 0 f ≡ 0
 unfolding bits
 bits_none f = refl
 
-pub bits_pass : (f : ℕ → Bool) (k m w r : ℕ) → m ≡ bits k f → w ≡ 2 ^ k → r ≡ one (f (k + 1)) → m + r * w ≡ bits (k + 1) f
+pub bits_next : (f : ℕ → Bool) {k m r : ℕ} → 1 ≤ k → m ≡ bits (k - 1) f → r ≡ one (f k)
+    → m + r * 2 ^ (k - 1) ≡ bits (k + 1 - 1) f
 unfolding bits
-bits_pass f k m w r a b d = rw add-one (rw (a, b, d ∙ ap (λ (x : ℕ). one (f x)) (add-one k)))
+bits_next f {k} l e d =
+    let p : k + 1 - 1 ≡ suc (k - 1) = omega arith in
+    let o : k ≡ suc (k - 1) = omega arith in
+    rw (p, e, d ∙ ap (λ (x : ℕ). one (f x)) o)
 
 -- a slot that passes has its bit in the map
 pub bits_part : (n : ℕ) (f : ℕ → Bool) (k : ℕ) → Range 1 n k → f k ≡ true → 2 ^ (k - 1) ≤ bits n f

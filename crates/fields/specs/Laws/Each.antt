@@ -1,9 +1,9 @@
 -- Laws of `each` and `no_two`: to all of 1 to n and back, and a loop's three places. Assumes nothing.
-use Rattle.std.specs.Prelude.{◌≡◌, refl, Bool, false, not, ◌&&◌, ◌≢◌, ◌⊎◌, ℕ, zero, suc, ◌+◌, ◌-◌, ◌≤◌, ◌<◌, eqb, leb}
+use Rattle.std.specs.Prelude.{◌≡◌, refl, Bool, false, not, ◌&&◌, ◌||◌, ◌≢◌, ◌⊎◌, ℕ, zero, suc, ◌+◌, ◌-◌, ◌≤◌, ◌<◌, eqb, leb}
 use Rattle.std.proofs.Math.Path.{sym, ap}
-use Rattle.std.proofs.Common.{ap₂, ◌∙◌, subst, inl, inr, ⊎_elim, eqb-true, leb-true, leb-false, eq-or-lt_of_le, le_antisymm, arith}
+use Rattle.std.proofs.Common.{ap₂, ◌∙◌, subst, le-leb, inl, inr, ⊎_elim, eqb-true, leb-true, leb-false, eq-or-lt_of_le, le_antisymm, arith}
 use Rattle.std.proofs.Math.Bool.{true, and-false}
-use Rattle.std.proofs.lemmas.Bool.{eqb-false, not-true}
+use Rattle.std.proofs.lemmas.Bool.{eqb-false, not-true, lt-leb}
 use Rattle.std.proofs.Math.Numerals.{add-one}
 use Rattle.terms.specs.Laws.Bools.{and_left, and_right, and_both, cases, within_in}
 use Rattle.terms.specs.Base.{within, Range}
@@ -62,57 +62,43 @@ each_not (suc n) f k r e =
     (λ (l : k ≤ n). rw (each_not n f k (range r.low l) e))
     (last_or n k r.high)
 
-each_none : (f : ℕ → Bool) → each 0 f ≡ true
+pub each_none : (f : ℕ → Bool) → each 0 f ≡ true
 unfolding each
 each_none f = refl
 
--- a loop that counts up to n and leaves at the first that fails: it asks for k + 1 after k have passed
-pub record Passed (n : ℕ) (f : ℕ → Bool) (k : ℕ) : Type 0 where
-  pub most : k ≤ n
-  pub all : each k f ≡ true
-
-pub passed_start : (n : ℕ) (f : ℕ → Bool) → Passed n f 0
-passed_start n f = record { most = omega arith; all = each_none f }
-
-module _ {n : ℕ} {f : ℕ → Bool} {k : ℕ} (w : Passed n f k) where
-  pub passed_on : {r : Bool} → k < n → r ≡ f (k + 1) → r ≡ true → Passed n f (k + 1)
-  unfolding each
-  passed_on l q h =
-      let next : f (suc k) ≡ true = ap f (sym (add-one k)) ∙ sym q ∙ h in
-      record { most = omega arith; all = rw add-one (and_both (each k f) (f (suc k)) w.all next) }
-
-  pub passed_fail : {r : Bool} → k < n → r ≡ f (k + 1) → r ≡ false → false ≡ each n f
-  passed_fail l q h = sym (each_not n f (k + 1) (range (omega arith) (omega arith)) (sym q ∙ h))
-
-  pub passed_done : n ≤ k → true ≡ each n f
-  passed_done m = sym (subst (λ (x : ℕ). each x f ≡ true) (le_antisymm w.most m) w.all)
-
-  -- what has passed is all below the one that is asked for
-  pub passed_below : each (k + 1 - 1) f ≡ true
-  passed_below = let a : k + 1 - 1 ≡ k = omega arith in rw a w.all
-
--- a loop that counts up and leaves nowhere: what is known of k, and then of k + 1
-pub each_more : (f : ℕ → Bool) (k : ℕ) (a b : Bool) → a ≡ each k f → b ≡ f (k + 1) → a && b ≡ each (k + 1) f
+pub each_ext : (n : ℕ) (f g : ℕ → Bool) → ((k : ℕ) → Range 1 n k → f k ≡ g k) → each n f ≡ each n g
 unfolding each
-each_more f k a b e h = rw add-one (ap₂ ◌&&◌ e (h ∙ ap f (add-one k)))
+each_ext zero f g h = refl
+each_ext (suc n) f g h =
+    ap₂ ◌&&◌ (each_ext n f g (λ k r. h k (let a = r.high in range r.low (omega arith)))) (h (suc n) (range (omega arith) (omega arith)))
 
-pub each_all : (n : ℕ) (f : ℕ → Bool) (k : ℕ) (a : Bool) → a ≡ each k f → k ≤ n → n ≤ k → a ≡ each n f
-each_all n f k a e l m = subst (λ (x : ℕ). a ≡ each x f) (le_antisymm l m) e
+-- ---- a loop from n on that leaves nowhere: the first n pass at once, and k has been asked
 
--- the same for one that begins with none
-pub record Tested (n : ℕ) (f : ℕ → Bool) (k : ℕ) (a : Bool) : Type 0 where
-  pub most : k ≤ n
-  pub is : a ≡ each k f
+abbrev pub after : ℕ → (ℕ → Bool) → ℕ → Bool
+after n f k = leb k n || f k
 
-pub tested_start : (n : ℕ) (f : ℕ → Bool) → Tested n f 0 true
-tested_start n f = record { most = omega arith; is = sym (each_none f) }
+pub after_start : (n : ℕ) (f : ℕ → Bool) → true ≡ each n (after n f)
+after_start n f = sym (each_of n (after n f) (λ k r. rw (le-leb k n r.high)))
 
-module _ {n : ℕ} {f : ℕ → Bool} {k : ℕ} {a : Bool} (w : Tested n f k a) where
-  pub tested_on : {b : Bool} → k < n → b ≡ f (k + 1) → Tested n f (k + 1) (a && b)
-  tested_on {b} l h = record { most = omega arith; is = each_more f k a b w.is h }
+pub after_next : (n : ℕ) {k : ℕ} (f : ℕ → Bool) {a b : Bool} → n ≤ k → a ≡ each k (after n f) → b ≡ f (k + 1)
+    → a && b ≡ each (k + 1) (after n f)
+unfolding each
+after_next n {k} f l e h =
+    rw add-one
+    (ap₂ ◌&&◌ e (h ∙ ap f (add-one k) ∙ sym (let m : n < suc k = omega arith in rw (lt-leb (suc k) n m))))
 
-  pub tested_done : n ≤ k → a ≡ each n f
-  tested_done m = each_all n f k a w.is w.most m
+-- where n is above m, none of 1 to m is asked
+pub after_done : (n : ℕ) {k m : ℕ} (f : ℕ → Bool) {a : Bool} → a ≡ each k (after n f) → k ≤ m + (n - m) → m ≤ k → a ≡ each m (after n f)
+after_done n {k} {m} f {a} e l h =
+    cases (leb n m)
+    (λ q. let w = leb-true n m q in subst (λ (x : ℕ). a ≡ each x (after n f)) (le_antisymm (omega arith) h) e)
+    (λ q.
+    let w = leb-false n m q in
+    e ∙ each_of k (after n f) (λ i r. let b = r.high in rw (le-leb i n (omega arith)))
+    ∙ sym (each_of m (after n f) (λ i r. let b = r.high in rw (le-leb i n (omega arith)))))
+
+pub after_none : (n : ℕ) (f : ℕ → Bool) → each n (after 0 f) ≡ each n f
+after_none n f = each_ext n (after 0 f) f (λ k r. rw (lt-leb k 0 r.low))
 
 -- ---- no two
 

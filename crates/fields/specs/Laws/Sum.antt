@@ -1,6 +1,6 @@
 -- Laws of `sum` and `count`. Assumes nothing.
-use Rattle.std.specs.Prelude.{◌≡◌, refl, Bool, true, false, ◌≢◌, ℕ, zero, suc, ◌+◌, ◌*◌, ◌≤◌, ◌<◌, eqb}
-use Rattle.std.proofs.Common.{sym, ap, ap₂, ◌∙◌, subst, ⊎_elim, le_antisymm, add-one, arith, ne_eqb, eqb-true}
+use Rattle.std.specs.Prelude.{◌≡◌, refl, Bool, true, false, ◌≢◌, ℕ, zero, suc, ◌+◌, ◌-◌, ◌*◌, ◌≤◌, ◌<◌, eqb}
+use Rattle.std.proofs.Common.{sym, ap, ap₂, ◌∙◌, ⊎_elim, arith, ne_eqb, eqb-true}
 use Rattle.terms.specs.Laws.Bools.{cases}
 use Rattle.terms.specs.Base.{Range}
 use Rattle.fields.specs.Base.{sum, one, count}
@@ -21,13 +21,16 @@ pub sum_none : (f : ℕ → ℕ) → sum 0 f ≡ 0
 unfolding sum
 sum_none f = refl
 
--- a loop that adds up: it asks for k + 1 after k have been added
-pub sum_pass : (f : ℕ → ℕ) (k n r : ℕ) → n ≡ sum k f → r ≡ f (k + 1) → n + r ≡ sum (k + 1) f
+-- a loop that adds up: n is the sum below k, and k is next
+pub sum_next : (f : ℕ → ℕ) {k n r : ℕ} → 1 ≤ k → n ≡ sum (k - 1) f → r ≡ f k → n + r ≡ sum (k + 1 - 1) f
 unfolding sum
-sum_pass f k n r e q = rw add-one (ap₂ (λ (a b : ℕ). a + b) e (q ∙ ap f (add-one k)))
+sum_next f {k} l e q =
+    let p : k + 1 - 1 ≡ suc (k - 1) = omega arith in
+    let o : k ≡ suc (k - 1) = omega arith in
+    rw p (ap₂ (λ (a b : ℕ). a + b) e (q ∙ ap f o))
 
-pub sum_done : (f : ℕ → ℕ) (m k n : ℕ) → n ≡ sum k f → k ≤ m → m ≤ k → n ≡ sum m f
-sum_done f m k n e l g = subst (λ (x : ℕ). n ≡ sum x f) (le_antisymm l g) e
+pub sum_last : (f : ℕ → ℕ) (k : ℕ) → 1 ≤ k → sum (k - 1) f + f k ≡ sum k f
+sum_last f k l = let e : k + 1 - 1 ≡ k = omega arith in sum_next f l refl refl ∙ ap (λ (x : ℕ). sum x f) e
 
 pub sum_ext : (n : ℕ) (f g : ℕ → ℕ) → ((k : ℕ) → Range 1 n k → f k ≡ g k) → sum n f ≡ sum n g
 unfolding sum

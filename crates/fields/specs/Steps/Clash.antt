@@ -1,10 +1,11 @@
--- What soundness/src/row.rt finds of a process row beside the rows below it. Assumes nothing.
-use Rattle.std.specs.Prelude.{◌≡◌, Bool, false, ◌&&◌, ◌≢◌, ℕ, ◌-◌, ◌≤◌, ◌<◌, length}
-use Rattle.std.proofs.Math.Path.{sym, ap}
+-- The test of soundness/src/row.rt of a process row beside the rows below it. Assumes nothing.
+use Rattle.std.specs.Prelude.{◌≡◌, Bool, false, ◌&&◌, ◌||◌, ◌≢◌, ℕ, ◌-◌, length}
+use Rattle.std.proofs.Math.Path.{refl, sym, ap}
 use Rattle.std.proofs.Common.{◌∙◌, arith}
 use Rattle.std.proofs.Math.Bool.{true, not, and-false}
 use Rattle.std.proofs.Math.Dec.{eqb}
-use borrow.Author.Tests.{eq-eqb, ne_eqb}
+use borrow.Author.Tests.{eq-eqb, ne_eqb, eqb-true}
+use Rattle.std.proofs.lemmas.Bool.{eqb-false}
 use Rattle.terms.specs.Base.{within, Range}
 use Rattle.terms.specs.Names.{folded, is_name, is_folded, has_dot}
 use Rattle.terms.specs.Laws.Bools.{and_left, and_right, agree, cases, fails, within_at}
@@ -14,7 +15,7 @@ use Rattle.fields.specs.Rule.View.{View, number, owner, size, letter}
 use Rattle.fields.specs.Rule.Clause.{empty_row, same_number, good_name, name_formed, same_pair}
 use Rattle.fields.specs.Rule.Word.{used, name_of}
 use Rattle.fields.specs.Good.{clash, row_good, Named}
-use Rattle.fields.specs.Laws.Each.{range, at_or, each_of, each_not}
+use Rattle.fields.specs.Laws.Each.{each_of}
 use Rattle.fields.specs.Laws.Sound.{if_then, or_else}
 use Rattle.fields.specs.Laws.Letters.{name_length, room_name, name_room}
 use Rattle.fields.specs.Laws.GoodParts.{good_row, empty_size}
@@ -101,26 +102,20 @@ module _ (v : View) (p : ℕ) where
         (λ t. name_room v q p z s.high (beside u).fill w.fill (pair_names t))
         ∙ clash_pair q e f h
 
+    pub clash_is : clash v q p
+        ≡ eqb (v (number q)) (v (number p))
+        || (eqb (v (owner q)) (v (owner p)) && eqb (v (size q)) (v (size p)) && each 64 (λ j. eqb (v (letter q j)) (v (letter p j))))
+    clash_is =
+        cases (eqb (v (number q)) (v (number p))) (λ e. rw e (sym (clash_number q w.live refl refl (eqb-true _ _ e)))) (λ e.
+        let n = eqb-false _ _ e in
+        cases (eqb (v (owner q)) (v (owner p)))
+        (λ f.
+        cases (eqb (v (size q)) (v (size p)))
+        (λ h. rw (e, f, h) (sym (clash_letters refl refl n refl refl (eqb-true _ _ f) refl refl (eqb-true _ _ h) refl)))
+        (λ h. rw (e, f, h) (sym (clash_sizes refl refl n refl refl (eqb-false _ _ h)))))
+        (λ f. rw (e, f) (sym (clash_owners q refl refl n refl refl (eqb-false _ _ f)))))
+
   -- a free row clashes with none
   pub new_free : used v p ≡ false → each (p - 1) (λ q. not (clash v q p)) ≡ true
   unfolding clash same_number same_pair
   new_free u = each_of (p - 1) (λ q. not (clash v q p)) (λ q m. rw (u, and-false (used v q)))
-
-  -- ---- the loop, from the row below down: no row above q clashes with p
-
-  abbrev pub Apart : ℕ → Type 0
-  Apart q = (k : ℕ) → q < k → k ≤ p - 1 → clash v k p ≡ false
-
-  pub apart_none : Apart (p - 1)
-  apart_none k l h = absurd (omega arith)
-
-  pub apart_more : {r : Bool} (q : ℕ) → Apart q → r ≡ clash v q p → r ≡ false → Apart (q - 1)
-  apart_more q a e f k l h = at_or (λ k. clash v k p ≡ false) k q (sym e ∙ f) (λ n. a k (omega (arith, n)) h)
-
-  pub new_fail : {r : Bool} (q : ℕ) → 0 < q → q ≤ p - 1 → r ≡ clash v q p → r ≡ true
-      → false ≡ each (p - 1) (λ q. not (clash v q p))
-  new_fail q l h e f = sym (each_not (p - 1) (λ q. not (clash v q p)) q (range (omega arith) h) (ap not (sym e ∙ f)))
-
-  pub new_done : (q : ℕ) → q ≤ 0 → Apart q → true ≡ each (p - 1) (λ q. not (clash v q p))
-  new_done q z a =
-      sym (each_of (p - 1) (λ q. not (clash v q p)) (λ k r. let l = r.low in ap not (a k (omega arith) r.high)))

@@ -1,13 +1,13 @@
--- What soundness/src/tab.rt finds at each of its exits. Assumes nothing.
-use Rattle.std.specs.Prelude.{◌≡◌, refl, Bool, true, false, ◌&&◌, ◌≢◌, List, ℕ, ◌-◌, ◌≤◌, ◌<◌, leb}
+-- The tests of soundness/src/tab.rt. Assumes nothing.
+use Rattle.std.specs.Prelude.{◌≡◌, refl, Bool, true, false, ◌&&◌, ◌||◌, cond, ◌≢◌, List, ℕ, ◌-◌, ◌<◌, leb}
 use Rattle.std.proofs.Math.Path.{sym, ap, ap₂}
 use Rattle.std.proofs.Common.{◌∙◌, arith}
 use Rattle.std.proofs.Math.Bool.{not, and-false}
 use Rattle.std.proofs.Math.Dec.{eqb}
-use borrow.Author.Tests.{eq-eqb, ne_eqb, le-leb, lt-leb}
+use borrow.Author.Tests.{le-leb}
 use Rattle.terms.specs.Base.{within}
 use Rattle.terms.specs.Names.{owner_of}
-use Rattle.terms.specs.Laws.Bools.{cases, within_low, within_high}
+use Rattle.terms.specs.Laws.Bools.{cases, within_high}
 use Rattle.fields.specs.Base.{each}
 use Rattle.fields.specs.Rule.View.{View, there, tenant, options, opens, serial, row, waiting, number, owner}
 use Rattle.fields.specs.Rule.Layout.{view}
@@ -16,24 +16,16 @@ use Rattle.fields.specs.Rule.Word.{live, used, owner_at}
 use Rattle.fields.specs.Good.{tab_good}
 use Rattle.fields.specs.Laws.There.{absent}
 use Rattle.fields.specs.Laws.Each.{each_of}
-use Rattle.fields.specs.Laws.Sound.{live_of, zero_free, used_of, zero_unused}
+use Rattle.fields.specs.Laws.Sound.{live_of, zero_free, zero_unused}
 use Rattle.fields.specs.Laws.Clause.{empty_tab_lem}
 
--- a test, and two that hold
-pub then_trues : (a : Bool) → a ≡ a && true && true
-then_trues true = refl
-then_trues false = refl
+turned : (a b : Bool) → a && true && b ≡ b && a
+turned true true = refl
+turned true false = refl
+turned false true = refl
+turned false false = refl
 
 -- ---- a field that is not there
-
--- no row 0, and none above 80
-pub unused_low : (t : List ℕ) (p : ℕ) → p ≡ 0 → used (view t) p ≡ false
-unfolding there
-unused_low t p e = zero_unused (view t) p (absent t (number p) (within_low 1 80 p (omega arith)))
-
-pub unused_high : (t : List ℕ) (p : ℕ) → 80 < p → used (view t) p ≡ false
-unfolding there
-unused_high t p h = zero_unused (view t) p (absent t (number p) (within_high 1 80 p h))
 
 -- no slot above 10
 pub free_high : (t : List ℕ) (s k : ℕ) → 10 < k → live (view t) s k ≡ false
@@ -56,95 +48,53 @@ module _ (v : View) (s : ℕ) where
     pub free_if : {n : ℕ} → n ≡ v (serial s k) → n ≡ 0 → live v s k ≡ false
     free_if e z = zero_free v s k (sym e ∙ z)
 
-    -- ---- empty
+    -- ---- the tests as the code asks them
 
-    pub empty_no_serial : {n : ℕ} → n ≡ v (serial s k) → n ≢ 0 → false ≡ empty_tab v s k
+    pub empty_is : empty_tab v s k ≡ eqb (v (serial s k)) 0 && eqb (v (row s k)) 0 && eqb (v (waiting s k)) 0
     unfolding empty_tab
-    empty_no_serial e h = rw (ne_eqb (v (serial s k)) 0 (λ z. h (e ∙ z)))
+    empty_is = refl
 
-    pub empty_no_row : {m : ℕ} → m ≡ v (row s k) → m ≢ 0 → false ≡ empty_tab v s k
-    unfolding empty_tab
-    empty_no_row f h = rw (ne_eqb (v (row s k)) 0 (λ y. h (f ∙ y)), and-false (eqb (v (serial s k)) 0))
-
-    pub empty_rest : {n m w : ℕ} → n ≡ v (serial s k) → n ≡ 0 → m ≡ v (row s k) → m ≡ 0 → w ≡ v (waiting s k)
-        → eqb w 0 ≡ empty_tab v s k
-    unfolding empty_tab
-    empty_rest e z f y g =
-        rw (eq-eqb (v (serial s k)) 0 (sym e ∙ z), eq-eqb (v (row s k)) 0 (sym f ∙ y)) (ap (λ (w : ℕ). eqb w 0) g)
-
-    -- ---- in form
-
-    pub formed_free : {n : ℕ} {r : Bool} → n ≡ v (serial s k) → n ≡ 0 → r ≡ empty_tab v s k → r ≡ tab_formed v s k
+    -- a free slot that is empty has no serial and waits for nothing
+    free_formed : live v s k ≡ false → tab_formed v s k ≡ empty_tab v s k
     unfolding tab_formed tab_in_range live_or_empty serial_fits
-    formed_free e z f =
+    free_formed f =
         cases (empty_tab v s k)
         (λ h.
         let w = empty_tab_lem v s k h in
-        f
-        ∙ rw (
+        rw (
           le-leb (v (waiting s k)) 3 (let q = w.waiting0 in omega arith),
-          free_if e z,
+          f,
           h,
           le-leb (v (serial s k)) (v (opens s)) (let q = w.serial0 in omega arith),
         ))
-        (λ h. f ∙ rw (free_if e z, h, and-false (leb (v (waiting s k)) 3)))
+        (λ h. rw (f, h, and-false (leb (v (waiting s k)) 3)))
 
-    pub formed_over : {n m : ℕ} → n ≡ v (serial s k) → m ≡ v (opens s) → m < n → false ≡ tab_formed v s k
-    unfolding tab_formed serial_fits
-    formed_over e f h =
-        rw (lt-leb (v (serial s k)) (v (opens s)) (omega arith)) (sym (and-false (tab_in_range v s k && live_or_empty v s k)))
-
-    pub formed_live : {n m w : ℕ} → n ≡ v (serial s k) → n ≢ 0 → m ≡ v (opens s) → n ≤ m → w ≡ v (waiting s k)
-        → leb w 3 ≡ tab_formed v s k
+    live_formed : live v s k ≡ true → tab_formed v s k ≡ leb (v (serial s k)) (v (opens s)) && leb (v (waiting s k)) 3
     unfolding tab_formed tab_in_range live_or_empty serial_fits
-    formed_live {w = w} e h f l g =
-        rw (live_if e h, le-leb (v (serial s k)) (v (opens s)) (omega arith), ← g) (then_trues (leb w 3))
+    live_formed l = rw l (turned (leb (v (waiting s k)) 3) (leb (v (serial s k)) (v (opens s))))
 
-    -- ---- hung
+    pub formed_is : tab_formed v s k
+        ≡ cond (live v s k) (leb (v (serial s k)) (v (opens s)) && leb (v (waiting s k)) 3) (empty_tab v s k)
+    formed_is = cases (live v s k) (λ l. rw l (live_formed l)) (λ f. rw f (free_formed f))
 
-    pub hung_free : {r : Bool} → r ≡ live v s k → r ≡ false → true ≡ hangs v s k
-    unfolding hangs
-    hung_free e h = rw (sym e ∙ h)
-
-    pub hung_unused : {r : Bool} {p : ℕ} → r ≡ live v s k → r ≡ true → p ≡ v (row s k) → used v p ≡ false → false ≡ hangs v s k
-    unfolding hangs
-    hung_unused e h f u = rw (sym e ∙ h, ← f, u)
-
-    pub hung_zero : {r : Bool} {p n : ℕ} → r ≡ live v s k → r ≡ true → p ≡ v (row s k) → n ≡ v (number p) → n ≡ 0
-        → false ≡ hangs v s k
-    hung_zero {r} {p} e h f g z = hung_unused e h f (zero_unused v p (sym g ∙ z))
-
-    pub hung_own : {r : Bool} {p n a b : ℕ} → r ≡ live v s k → r ≡ true → p ≡ v (row s k) → n ≡ v (number p) → n ≢ 0
-        → a ≡ v (owner p) → b ≡ owner_at v s → eqb a b ≡ hangs v s k
-    unfolding hangs
-    hung_own {r} {p} e h f g z i j =
-        rw (sym e ∙ h, ← f, used_of v p (λ y. z (g ∙ y))) (ap₂ (λ (a b : ℕ). eqb a b) i j)
-
-    -- ---- beside the slots below
-
-    pub same_free : {n : ℕ} (i : ℕ) → n ≡ v (serial s k) → n ≡ 0 → false ≡ same_serial v s i k
+    pub same_is : (i : ℕ) → same_serial v s i k ≡ live v s k && eqb (v (serial s i)) (v (serial s k))
     unfolding same_serial
-    same_free i e z = rw (free_if e z)
+    same_is i = refl
 
-    pub same_live : {n m : ℕ} (i : ℕ) → n ≡ v (serial s k) → n ≢ 0 → m ≡ v (serial s i) → eqb m n ≡ same_serial v s i k
+    pub free_new : live v s k ≡ false → each (k - 1) (λ i. not (same_serial v s i k)) ≡ true
     unfolding same_serial
-    same_live i e h f = rw (live_if e h) (ap₂ (λ (a b : ℕ). eqb a b) f e)
+    free_new e = each_of (k - 1) (λ i. not (same_serial v s i k)) (λ i q. rw e)
 
-    pub new_free : {r : Bool} → r ≡ live v s k → r ≡ false → true ≡ each (k - 1) (λ i. not (same_serial v s i k))
-    unfolding same_serial
-    new_free e h = sym (each_of (k - 1) (λ i. not (same_serial v s i k)) (λ i q. rw (sym e ∙ h)))
-
-    -- ---- good
-
-    pub good_unformed : {r : Bool} → r ≡ tab_formed v s k → r ≡ false → false ≡ tab_good v s k
+    pub good_is : tab_good v s k ≡ tab_formed v s k && hangs v s k && each (k - 1) (λ i. not (same_serial v s i k))
     unfolding tab_good
-    good_unformed e h = rw (sym e ∙ h)
+    good_is = refl
 
-    pub good_unhung : {r : Bool} → r ≡ hangs v s k → r ≡ false → false ≡ tab_good v s k
-    unfolding tab_good
-    good_unhung e h = rw (sym e ∙ h, and-false (tab_formed v s k))
-
-    pub good_new : {r q a : Bool} → r ≡ tab_formed v s k → r ≡ true → q ≡ hangs v s k → q ≡ true
-        → a ≡ each (k - 1) (λ i. not (same_serial v s i k)) → a ≡ tab_good v s k
-    unfolding tab_good
-    good_new e h f i g = rw (sym e ∙ h, sym f ∙ i) g
+-- no row 0 and none above 80 is used
+pub hangs_is : (t : List ℕ) (s k : ℕ) → hangs (view t) s k
+    ≡ not (live (view t) s k)
+    || (leb 1 (view t (row s k)) && leb (view t (row s k)) 80 && used (view t) (view t (row s k))
+    && eqb (view t (owner (view t (row s k)))) (owner_at (view t) s))
+unfolding hangs there
+hangs_is t s k =
+    let p = view t (row s k) in
+    cases (within 1 80 p) (λ w. rw w) (λ w. rw (w, zero_unused (view t) p (absent t (number p) w)))

@@ -1,11 +1,12 @@
--- The loop keeps: whether the letters up to j are no dots. Assumes nothing.
-use Rattle.std.proofs.Common.{ap, eqb, not, ℕ}
-use Rattle.fields.specs.Laws.Each.{tested_start, tested_on}
+-- Every letter is asked. Assumes nothing.
+use Rattle.std.proofs.Common.{eqb, not, rules, ◌∙◌}
+use borrow.Author.Tests.{tests}
+use Rattle.fields.specs.Table.{view, letter}
+use Rattle.fields.specs.Laws.Each.{after_none}
 use Rattle.letters.proofs.are_dotless.Goals as goal
 
-pub loop-j-init : goal.loop-j-init
-loop-j-init c = tested_start _ _
-
-pub loop-j-preserved : goal.loop-j-preserved
-loop-j-preserved c =
-    tested_on c.loop-j.invariant c.loop-j-test.true (ap (λ (x : ℕ). not (eqb x 46)) c.letter.ensures)
+pub returns : goal.returns
+returns c =
+    let v = view c.args.t.now in
+    let p = c.args.p in
+    c.is_each_after.ensures (λ j. not (eqb (v (letter p j)) 46)) (λ j r i h. search (rules, tests)) ∙ after_none 64 _

@@ -1,12 +1,12 @@
--- The loop keeps: whether the letters up to j are the same. Assumes nothing.
-use Rattle.std.proofs.Common.{ap₂, eqb, ℕ}
-use Rattle.fields.specs.Laws.Each.{tested_start, tested_on}
+-- Every letter is asked. Assumes nothing.
+use Rattle.std.proofs.Common.{eqb, rules, ◌∙◌}
+use borrow.Author.Tests.{tests}
+use Rattle.fields.specs.Table.{view, letter}
+use Rattle.fields.specs.Laws.Each.{after_none}
 use Rattle.letters.proofs.are_same.Goals as goal
 
-pub loop-j-init : goal.loop-j-init
-loop-j-init c = tested_start _ _
-
-pub loop-j-preserved : goal.loop-j-preserved
-loop-j-preserved c =
-    tested_on c.loop-j.invariant c.loop-j-test.true
-    (ap₂ (λ (x y : ℕ). eqb x y) c.letter.ensures c.letter-in-loop-j.ensures)
+pub returns : goal.returns
+returns c =
+    let v = view c.args.t.now in
+    c.is_each_after.ensures (λ j. eqb (v (letter c.args.q j)) (v (letter c.args.p j))) (λ j r i h. search (rules, tests))
+    ∙ after_none 64 _

@@ -1,22 +1,15 @@
--- The loop keeps: whether the places up to j belong to the name or are zero, and j is past the name. Assumes nothing.
-use Rattle.std.proofs.Common.{arith}
-use Rattle.fields.specs.Table.{view}
-use Rattle.fields.specs.Steps.Row.{fill_start, fill_more, fill_done}
+-- The letters that are asked are those of the fill. Assumes nothing.
+use Rattle.std.proofs.Common.{eqb, rules, sym, ◌∙◌, leb, ◌||◌, ap, ℕ}
+use borrow.Author.Tests.{tests}
+use Rattle.fields.specs.Base.{each}
+use Rattle.fields.specs.Table.{view, letter}
+use Rattle.fields.specs.Steps.Row.{fill_is}
 use Rattle.letters.proofs.is_filled.Goals as goal
-
-pub loop-j-init : goal.loop-j-init
-loop-j-init c =
-    let a = c.args in
-    (omega arith, (omega arith, fill_start (view a.t.now) a.p c.size-j.ensures.0))
-
-pub loop-j-preserved : goal.loop-j-preserved
-loop-j-preserved c =
-    let l = c.loop-j in
-    let a = c.args in
-    let more = fill_more (view a.t.now) a.p l.j l.invariant.1.1 l.invariant.0 c.letter.ensures in
-    (omega arith, (omega arith, more))
 
 pub returns : goal.returns
 returns c =
-    let l = c.loop-j in
-    fill_done _ _ l.j l.invariant.1.1 l.invariant.0 l.invariant.1.0 c.loop-j-test.false
+    let v = view c.args.t.now in
+    let p = c.args.p in
+    c.is_each_after.ensures (λ j. eqb (v (letter p j)) 0) (λ j r i h. search (rules, tests))
+    ∙ ap (λ (n : ℕ). each 64 (λ j. leb j n || eqb (v (letter p j)) 0)) c.size.ensures.0
+    ∙ sym (fill_is v p)

@@ -1,21 +1,15 @@
--- The loop keeps: no slot up to i has the serial of slot k. A free slot shares none. Assumes nothing.
-use Rattle.std.proofs.Common.{ap, not}
-use Rattle.fields.specs.Laws.Each.{passed_start, passed_on, passed_fail}
-use Rattle.fields.specs.Steps.Tab.{new_free}
+-- A free slot shares no serial. Of a live one the chain asks each slot below. Assumes nothing.
+use Rattle.std.proofs.Common.{ap, not, rules, sym, ◌∙◌}
+use borrow.Author.Tests.{tests}
+use Rattle.fields.specs.Laws.Chains.{all_each, up_to}
+use Rattle.fields.specs.Steps.Tab.{free_new}
 use Rattle.soundness.proofs.tab.is_serial_new.Goals as goal
 
 pub returns-then-not-is_live : goal.returns-then-not-is_live
-returns-then-not-is_live c = new_free _ _ _ c.is_live.ensures c.if-not-is_live.true
+returns-then-not-is_live c =
+    let free = c.if-not-is_live.true in
+    ap not free ∙ sym (free_new _ _ _ (sym c.is_live.ensures ∙ free))
 
-pub loop-i-init : goal.loop-i-init
-loop-i-init c = passed_start _ _
-
-pub returns-then-is_same_serial : goal.returns-then-is_same_serial
-returns-then-is_same_serial c =
-    let new = ap not c.is_same_serial.ensures in
-    passed_fail c.loop-i.invariant c.loop-i-test.true new (ap not c.if-is_same_serial.true)
-
-pub loop-i-preserved : goal.loop-i-preserved
-loop-i-preserved c =
-    let new = ap not c.is_same_serial.ensures in
-    passed_on c.loop-i.invariant c.loop-i-test.true new (ap not c.if-is_same_serial.false)
+pub returns-else-not-is_live : goal.returns-else-not-is_live
+returns-else-not-is_live c =
+    all_each _ _ _ (up_to c.requires.slot.low) c.all.ensures.ran (λ x b q h. search (rules, tests))
