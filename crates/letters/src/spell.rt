@@ -8,6 +8,7 @@ use fields::layout::{ROOM, set_letter};
 use terms::fold::fold;
 
 // A name's byte, folded; 0 past its end.
+#[tactic(auto, using(terms::specs::Laws::Fold::get_d_folded))]
 fn letter_of(name: &[u8], j: usize) -> u8
     ensures { result ≡ get_or (folded name.now) j 0 }
 {
@@ -19,9 +20,7 @@ pub fn spell(t: &mut [u8], p: usize, name: &[u8])
     requires { RowOf t.old p }
     ensures { Left t.new (spelled t.old p (folded name.now) 64) }
 {
-    let mut j = 0;
-    while j < ROOM {
+    for j in 0..ROOM {
         set_letter(t, p, j + 1, letter_of(name, j));
-        j += 1;
     }
 }

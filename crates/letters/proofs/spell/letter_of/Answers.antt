@@ -1,12 +1,9 @@
--- A byte of the name is folded by itself, and past its end the folded name has none. Assumes nothing.
-use Rattle.std.proofs.Common.{arith, sym, ◌∙◌}
+-- Past its end the folded name has no byte. Assumes nothing.
+use Rattle.std.proofs.Common.{arith, sym}
 use lib.ListN.{get_or-eq_default}
 use Rattle.terms.specs.Names.{folded}
-use Rattle.terms.specs.Laws.Fold.{length_folded, get_d_folded}
+use Rattle.terms.specs.Laws.Fold.{length_folded}
 use Rattle.letters.proofs.spell.letter_of.Goals as goal
-
-pub returns-then-j-name : goal.returns-then-j-name
-returns-then-j-name c = let a = c.args in c.fold.ensures ∙ sym (get_d_folded a.name.now a.j)
 
 pub returns-else-j-name : goal.returns-else-j-name
 returns-else-j-name c =

@@ -1,6 +1,5 @@
 -- The loop keeps: the first j of the row's 64 bytes are the folded name's, zeros after its end. Each turn writes
 -- one more. Assumes nothing.
-use Rattle.std.proofs.Common.{arith}
 use Rattle.terms.specs.Names.{folded}
 use Rattle.fields.specs.Steps.Names.{spelled_none, spelled_more}
 use Rattle.letters.proofs.spell.spell.Goals as goal
@@ -8,12 +7,11 @@ use Rattle.letters.proofs.spell.spell.Goals as goal
 pub loop-j-init : goal.loop-j-init
 loop-j-init c =
     let a = c.args in
-    (omega arith, (c.requires.long, spelled_none a.t.now a.p (folded a.name.now)))
+    (c.requires.long, spelled_none a.t.now a.p (folded a.name.now))
 
 pub loop-j-preserved : goal.loop-j-preserved
 loop-j-preserved c =
     let a = c.args in
     let loop = c.loop-j in
     let w = c.set_letter.ensures in
-    let x = c.letter_of.ensures in
-    (omega arith, (w.long, spelled_more a.t.now a.p (folded a.name.now) loop.j loop.invariant.1.1 x w))
+    (w.long, spelled_more a.t.now a.p (folded a.name.now) loop.j loop.invariant.1 c.letter_of.ensures w)
