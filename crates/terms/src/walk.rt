@@ -20,8 +20,8 @@ impl From<u8> for Class {
         match x {
             b'.' => Class::Dot,
             b'-' => Class::Hyphen,
-            b'0'..=b'9' => Class::Digit,
-            b'a'..=b'z' | b'A'..=b'Z' => Class::Letter,
+            _ if x.is_ascii_digit() => Class::Digit,
+            _ if x.is_ascii_alphabetic() => Class::Letter,
             _ => Class::Other,
         }
     }
