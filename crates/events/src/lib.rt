@@ -5,7 +5,7 @@ ghost use Rattle.std.specs.Prelude.{◌≡◌, ◌&&◌, ◌+◌, ◌≤◌, len
 ghost use Rattle.rules.specs.Sheet.{reading_of};
 ghost use Rattle.rules.specs.Inner.{sized, from_seat, from_tab, sent_by, delivered, rest};
 
-use rules::event::{Delivery, Event, Part, Reading, SeatMessage, TabMessage};
+use rules::event::{Delivery, Event, Part, SeatMessage, TabMessage};
 use terms::byte::wide;
 use terms::num::{four_at, two_at};
 
@@ -37,87 +37,87 @@ fn rest_of(e: &[u8], j: usize) -> Part
     Part { at, len }
 }
 
-fn seat_event(e: &[u8], n: usize, id: usize, tag: u8) -> Reading
+fn seat_event(e: &[u8], n: usize, id: usize, tag: u8) -> Option<Event>
     requires { 10 + n ≡ length e.now }
     ensures { result ≡ from_seat e.now n id tag }
 {
     if tag == 1 {
         if n != 1 {
-            return Reading::Malformed;
+            return None;
         }
         let message = SeatMessage::Key(e[HEAD]);
-        return Reading::Whole(Event::Seat { id, message });
+        return Some(Event::Seat { id, message });
     }
     if tag == 2 {
         if n != 4 {
-            return Reading::Malformed;
+            return None;
         }
         let message = SeatMessage::Mouse(rest_of(e, 0));
-        return Reading::Whole(Event::Seat { id, message });
+        return Some(Event::Seat { id, message });
     }
     if tag == 3 {
         let message = SeatMessage::Open(rest_of(e, 0));
-        return Reading::Whole(Event::Seat { id, message });
+        return Some(Event::Seat { id, message });
     }
-    Reading::Malformed
+    None
 }
 
-fn socket_event(e: &[u8], n: usize, id: usize) -> Reading
+fn socket_event(e: &[u8], n: usize, id: usize) -> Option<Event>
     requires { 10 + n ≡ length e.now }
     ensures { result ≡ from_tab e.now n id 2 }
 {
     if n < 2 {
-        return Reading::Malformed;
+        return None;
     }
     let port = two_at(e, HEAD);
     let host = rest_of(e, 2);
     let message = TabMessage::Socket { port, host };
-    Reading::Whole(Event::Tab { id, message })
+    Some(Event::Tab { id, message })
 }
 
-fn store_event(e: &[u8], n: usize, id: usize) -> Reading
+fn store_event(e: &[u8], n: usize, id: usize) -> Option<Event>
     requires { 10 + n ≡ length e.now }
     ensures { result ≡ from_tab e.now n id 4 }
 {
     if n < 1 {
-        return Reading::Malformed;
+        return None;
     }
     let len = wide(e[HEAD]);
     if n < 1 + len {
-        return Reading::Malformed;
+        return None;
     }
     let domain = Part { at: HEAD + 1, len };
     let cookie = rest_of(e, 1 + len);
     let message = TabMessage::Store { domain, cookie };
-    Reading::Whole(Event::Tab { id, message })
+    Some(Event::Tab { id, message })
 }
 
-fn tab_event(e: &[u8], n: usize, id: usize, tag: u8) -> Reading
+fn tab_event(e: &[u8], n: usize, id: usize, tag: u8) -> Option<Event>
     requires { 10 + n ≡ length e.now }
     ensures { result ≡ from_tab e.now n id tag }
 {
     if tag == 1 {
         if n != 12 {
-            return Reading::Malformed;
+            return None;
         }
         let message = TabMessage::Display(rest_of(e, 0));
-        return Reading::Whole(Event::Tab { id, message });
+        return Some(Event::Tab { id, message });
     }
     if tag == 2 {
         return socket_event(e, n, id);
     }
     if tag == 3 {
         let message = TabMessage::Url(rest_of(e, 0));
-        return Reading::Whole(Event::Tab { id, message });
+        return Some(Event::Tab { id, message });
     }
     if tag == 4 {
         return store_event(e, n, id);
     }
     if tag == 5 {
         let message = TabMessage::Retrieve(rest_of(e, 0));
-        return Reading::Whole(Event::Tab { id, message });
+        return Some(Event::Tab { id, message });
     }
-    Reading::Malformed
+    None
 }
 
 // A result or a document.
@@ -139,7 +139,7 @@ fn is_delivery(n: usize, tag: u8) -> bool
     4 <= n
 }
 
-fn sent_event(e: &[u8], n: usize, party: u8, id: usize, tag: u8) -> Reading
+fn sent_event(e: &[u8], n: usize, party: u8, id: usize, tag: u8) -> Option<Event>
     requires { 10 + n ≡ length e.now }
     ensures { result ≡ sent_by e.now n party id tag }
 {
@@ -150,25 +150,25 @@ fn sent_event(e: &[u8], n: usize, party: u8, id: usize, tag: u8) -> Reading
         return tab_event(e, n, id, tag);
     }
     if !is_delivery(n, tag) {
-        return Reading::Malformed;
+        return None;
     }
     if party == 3 {
         let result = delivery(e);
-        return Reading::Whole(Event::Process { id, result });
+        return Some(Event::Process { id, result });
     }
     if party == 4 {
         let document = delivery(e);
-        return Reading::Whole(Event::Network { id, document });
+        return Some(Event::Network { id, document });
     }
-    Reading::Malformed
+    None
 }
 
 // The event that some bytes are, for any bytes.
-pub fn read(e: &[u8]) -> Reading
+pub fn read(e: &[u8]) -> Option<Event>
     ensures { result ≡ reading_of e.now }
 {
     if !is_sized(e) {
-        return Reading::Malformed;
+        return None;
     }
     sent_event(e, e.len() - HEAD, e[0], four_at(e, 1), e[5])
 }

@@ -6,7 +6,7 @@ pub use Rattle.fields.specs.Rule.Layout.{table_bytes, most_opens, most_number, v
 pub use Rattle.fields.specs.Held.{SeatOf, TabOf, RowOf}
 pub use Rattle.fields.specs.Rule.Sound.{sound_table}
 pub use Rattle.fields.specs.Rule.Word.{live, used, owner_at, name_of, pointing}
-pub use Rattle.fields.specs.Rule.Find.{tab_of, process_of, process_with, free_slot, free_process, live_tabs}
+pub use Rattle.fields.specs.Rule.Find.{placed, tab_of, process_of, process_with, free_slot, free_process, live_tabs}
 pub use Rattle.fields.specs.Rule.Asked.{HasSlot, Openable, Closable, TabLive}
 pub use Rattle.fields.specs.Rule.Update.{opened, picked, closed, weight, waits, marked, unmarked}
 pub use Rattle.fields.specs.Rule.Fresh.{fresh}

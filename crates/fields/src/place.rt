@@ -1,6 +1,6 @@
 // Where a tab is live.
 #[derive(Clone, Copy)]
-pub enum Place {
-    Nowhere,
-    At { seat: usize, slot: usize },
+pub struct Place {
+    pub seat: usize,
+    pub slot: usize,
 }

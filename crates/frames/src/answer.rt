@@ -1,36 +1,26 @@
 // A step's answer, made, packed, and read out of the packed number.
 ghost use Rattle.std.specs.Prelude.{◌≡◌, ◌≤◌};
 ghost use Rattle.rules.specs.Sheet.{packed, number_in, actions_in, bytes_in};
-ghost use Rattle.rules.specs.Inner.{Says};
+ghost use Rattle.rules.specs.Inner.{Says, number_given, actions_given, written_given};
 
-use rules::verdict::Verdict;
+use rules::verdict::{Done, Refusal};
 
-pub fn refused(number: u8) -> Verdict
-    ensures { Says number 0 0 result }
-{
-    Verdict {
-        number,
-        actions: 0,
-        written: 0,
-    }
-}
-
-pub fn done(actions: u8, written: usize) -> Verdict
+pub fn done(actions: u8, written: usize) -> Result<Done, Refusal>
     requires { written ≤ 65535 }
     ensures { Says 0 actions written result }
 {
-    Verdict {
-        number: 0,
-        actions,
-        written: written as u16,
-    }
+    let written = written as u16;
+    Ok(Done { actions, written })
 }
 
 // All three in one number, as the two calls give them back.
-pub fn pack(number: u8, actions: u8, written: u16) -> u64
-    ensures { result ≡ packed number actions written }
+pub fn pack(answer: Result<Done, Refusal>) -> u64
+    ensures { result ≡ packed (number_given answer) (actions_given answer) (written_given answer) }
 {
-    (number as u64) + 256 * (actions as u64) + 65536 * (written as u64)
+    match answer {
+        Ok(given) => 256 * u64::from(given.actions) + 65536 * u64::from(given.written),
+        Err(why) => u64::from(u8::from(why)),
+    }
 }
 
 pub fn number_in(answer: u64) -> u64

@@ -8,10 +8,9 @@ ghost use Rattle.rules.specs.Inner.{Decided};
 
 use events::read;
 use fields::layout::is_long;
-use frames::answer::{pack, refused};
+use frames::answer::{done, pack};
 use names::book::is_sound;
-use rules::event::Reading;
-use rules::verdict::Verdict;
+use rules::verdict::{Done, Refusal};
 use senders::serve;
 use soundness::sound;
 use table::fresh::fresh;
@@ -22,34 +21,29 @@ const ROOM: usize = 4106;
 pub fn stewlattice_start(table: &mut [u8], book: &[u8]) -> u64
     ensures { Started (start_of table.old book.now) table.new result }
 {
-    let long = is_long(table);
-    let sound = is_sound(book);
-    if !long {
-        return pack(2, 0, 0);
+    if !is_long(table) {
+        return pack(Err(Refusal::UnsoundTable));
     }
-    if !sound {
-        return pack(6, 0, 0);
+    if !is_sound(book) {
+        return pack(Err(Refusal::UnsoundBook));
     }
     fresh(table, book);
-    pack(0, 0, 0)
+    pack(done(0, 0))
 }
 
 // Refusals 1 to 3, and else what the event's rule decides.
-fn decide(table: &mut [u8], book: &[u8], event: &[u8], out: &mut [u8]) -> Verdict
+fn decide(table: &mut [u8], book: &[u8], event: &[u8], out: &mut [u8]) -> Result<Done, Refusal>
     ensures { Decided (step_of (length out.old) table.old book.now event.now) out.old table.new out.new result }
 {
     let short = out.len() < ROOM;
     if short {
-        return refused(1);
+        return Err(Refusal::ShortRoom);
     }
     if !sound(table) {
-        return refused(2);
+        return Err(Refusal::UnsoundTable);
     }
-    let reading = read(event);
-    match reading {
-        Reading::Malformed => refused(3),
-        Reading::Whole(e) => serve(table, book, event, out, e),
-    }
+    let e = read(event).ok_or(Refusal::Malformed)?;
+    serve(table, book, event, out, e)
 }
 
 // One event: for any bytes, what the rule sheet gives.
@@ -57,5 +51,5 @@ pub fn stewlattice_step(table: &mut [u8], book: &[u8], event: &[u8], out: &mut [
     ensures { Stepped (step_of (length out.old) table.old book.now event.now) out.old table.new out.new result }
 {
     let given = decide(table, book, event, out);
-    pack(given.number, given.actions, given.written)
+    pack(given)
 }

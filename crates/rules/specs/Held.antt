@@ -1,5 +1,5 @@
 -- What the kernel's functions ask of their callers, and what they leave, below the two calls. Assumes nothing.
-use Rattle.std.specs.Prelude.{ℕ, ◌+◌, ◌≤◌, ◌<◌, ◌≡◌, Bool, true, not, cond, ◌≢◌, List, [], ◌∷◌, length, eqb}
+use Rattle.std.specs.Prelude.{ℕ, ◌+◌, ◌≤◌, ◌<◌, ◌≡◌, Bool, true, not, cond, ◌≢◌, List, [], ◌∷◌, length, eqb, Result, Ok, Err}
 use Rattle.terms.specs.Names.{folded, sound_book}
 use Rattle.fields.specs.Table.{tenant, view, sound_table, live, owner_at, process_with, waits, Openable}
 use Rattle.fields.specs.declared.mark.Mark.{Mark}
@@ -7,7 +7,9 @@ use Rattle.rules.specs.Rule.Frame.{Frame, frames, over}
 use Rattle.rules.specs.Rule.Desk.{Desk, Reply, changed}
 use Rattle.rules.specs.Rule.Seat.{acceptable}
 use Rattle.rules.specs.Rule.Step.{Outcome, room_needed}
-use Rattle.rules.specs.declared.verdict.Verdict.{Verdict}
+use Rattle.rules.specs.Rule.Refusal.{number_of}
+use Rattle.rules.specs.declared.verdict.Done.{Done}
+use Rattle.rules.specs.declared.verdict.Refusal.{Refusal}
 use Rattle.rules.specs.declared.event.Part.{Part}
 use Rattle.rules.specs.declared.event.SeatMessage.{SeatMessage}
 use Rattle.rules.specs.declared.event.SeatMessage.TheVariants.{Key, Mouse, Open}
@@ -52,20 +54,34 @@ pub record Fits (o : List ℕ) (at id n : ℕ) : Type 0 where
 
 -- ---- answers
 
-pub record Says (number actions written : ℕ) (d : Verdict) : Type 0 where
-  pub number= : d.number ≡ number
-  pub actions= : d.actions ≡ actions
-  pub written= : d.written ≡ written
+-- the number of a result: 0 is done, and a refusal has its own
+abbrev pub number_given : {A : Type 0} → Result A Refusal → ℕ
+number_given (Ok x) = 0
+number_given (Err why) = number_of why
+
+-- and both counts: "A refusal reports both counts 0"
+abbrev pub actions_given : Result Done Refusal → ℕ
+actions_given (Ok x) = x.actions
+actions_given (Err why) = 0
+
+abbrev pub written_given : Result Done Refusal → ℕ
+written_given (Ok x) = x.written
+written_given (Err why) = 0
+
+pub record Says (number actions written : ℕ) (d : Result Done Refusal) : Type 0 where
+  pub number= : number_given d ≡ number
+  pub actions= : actions_given d ≡ actions
+  pub written= : written_given d ≡ written
 
 -- what a rule's function leaves, of seat s of table t: the reply's number and counts, its change, and its frames over the
 -- front of the room
-pub record Replied (t : List ℕ) (s : ℕ) (x : Reply) (lent table_after room_after : List ℕ) (d : Verdict) : Type 0 where
+pub record Replied (t : List ℕ) (s : ℕ) (x : Reply) (lent table_after room_after : List ℕ) (d : Result Done Refusal) : Type 0 where
   pub says : Says x.number (length x.actions) (length (frames x.actions)) d
   pub table : table_after ≡ changed t s x.change
   pub room : room_after ≡ over lent 0 (frames x.actions)
 
 -- what an event's function leaves: the same of an outcome
-pub record Decided (x : Outcome) (lent table_after room_after : List ℕ) (d : Verdict) : Type 0 where
+pub record Decided (x : Outcome) (lent table_after room_after : List ℕ) (d : Result Done Refusal) : Type 0 where
   pub says : Says x.number (length x.actions) (length (frames x.actions)) d
   pub table : table_after ≡ x.table
   pub room : room_after ≡ over lent 0 (frames x.actions)

@@ -3,6 +3,7 @@ pub mod Frame
 pub mod Event
 pub mod Fits
 pub mod Action
+pub mod Refusal
 pub mod Desk
 pub mod Allow
 pub mod Seat

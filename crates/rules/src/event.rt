@@ -37,10 +37,3 @@ pub enum Event {
     Process { id: usize, result: Delivery },
     Network { id: usize, document: Delivery },
 }
-
-// What the bytes of an event are read as.
-#[derive(Clone, Copy)]
-pub enum Reading {
-    Whole(Event),
-    Malformed,
-}

@@ -7,10 +7,10 @@ ghost use Rattle.rules.specs.Inner.{Sent, Fits, Replied, Ready, ReadyTab, only, 
 
 use fields::layout::selected;
 use frames::action::{BAR, HOST, KEY, RENDER, SCREEN, STOP_PROCESS, STOP_TAB, TAB};
-use frames::answer::{done, refused};
+use frames::answer::done;
 use frames::desk::{id, is_last, process, suffix};
 use frames::send::{send_bare, send_raw};
-use rules::verdict::Verdict;
+use rules::verdict::{Done, Refusal};
 use soundness::tab::is_live;
 use table::close::pick;
 use terms::byte::{is_within, wide};
@@ -36,7 +36,7 @@ fn send_selected(t: &[u8], out: &mut [u8], s: usize, k: usize) -> usize
 }
 
 // F1 to F10.
-fn select(t: &mut [u8], out: &mut [u8], s: usize, k: usize) -> Verdict
+fn select(t: &mut [u8], out: &mut [u8], s: usize, k: usize) -> Result<Done, Refusal>
     requires { Ready t.old out.old s × Range 1 10 k }
     ensures { Replied t.old s (select_rule (desk_at t.old s) k) out.old t.new out.new result }
 {
@@ -70,7 +70,7 @@ fn send_closed(t: &[u8], out: &mut [u8], s: usize, k: usize, last: bool) -> usiz
 }
 
 // F12.
-fn close(t: &mut [u8], out: &mut [u8], s: usize) -> Verdict
+fn close(t: &mut [u8], out: &mut [u8], s: usize) -> Result<Done, Refusal>
     requires { Ready t.old out.old s }
     ensures { Replied t.old s (close_rule (desk_at t.old s)) out.old t.new out.new result }
 {
@@ -88,7 +88,7 @@ fn close(t: &mut [u8], out: &mut [u8], s: usize) -> Verdict
 }
 
 // What goes to the selected tab.
-pub fn pass(t: &[u8], out: &mut [u8], s: usize, tag: u8, x: &[u8]) -> Verdict
+pub fn pass(t: &[u8], out: &mut [u8], s: usize, tag: u8, x: &[u8]) -> Result<Done, Refusal>
     requires { Ready t.now out.old s × (length x.now ≤ 4096) }
     ensures { Replied t.now s (pass_rule (desk_at t.now s) (λ (i : ℕ). framed 2 i tag x.now)) out.old t.now out.new result }
 {
@@ -113,7 +113,7 @@ fn is_plain(k: u8) -> bool
     is_within(32, 126, k)
 }
 
-pub fn key(t: &mut [u8], out: &mut [u8], s: usize, k: u8) -> Verdict
+pub fn key(t: &mut [u8], out: &mut [u8], s: usize, k: u8) -> Result<Done, Refusal>
     requires { Ready t.old out.old s }
     ensures { Replied t.old s (key_rule (desk_at t.old s) k) out.old t.new out.new result }
 {
@@ -124,7 +124,7 @@ pub fn key(t: &mut [u8], out: &mut [u8], s: usize, k: u8) -> Verdict
         return close(t, out, s);
     }
     if !is_plain(k) {
-        return refused(5);
+        return Err(Refusal::BadKey);
     }
     let byte = [k];
     pass(t, out, s, KEY, &byte)

@@ -4,48 +4,48 @@ ghost use Rattle.terms.specs.Names.{folded};
 ghost use Rattle.fields.specs.Table.{view};
 ghost use Rattle.rules.specs.Sheet.{desk_at, reply, open_tab, open_rule, start_process, start_tab, go, bar, new_id};
 ghost use Rattle.rules.specs.Inner.{Sent, Fits, Replied, Ready, book_number, open_number, only, open_actions, Opening};
-ghost use Rattle.rules.specs.Inner.{Taking, Found};
+ghost use Rattle.rules.specs.Inner.{Taking, Found, number_given};
 
 use fields::layout::{is_spent, last, opens, tab_id};
 use frames::action::{BAR, GO, HOST, SCREEN, START_PROCESS, START_TAB, TAB};
-use frames::answer::{done, refused};
+use frames::answer::done;
 use frames::send::{send_bare, send_name};
-use rules::verdict::Verdict;
+use rules::verdict::{Done, Refusal};
 use soundness::tab::owner_at;
 use table::find::process_with;
 use table::slots::live_tabs;
 
-// 6 for an unsound book, 7 for a suffix that is not all of its own suffix under it, or 0. The question tells both.
-fn book_number(book: &[u8], x: &[u8]) -> u8
-    ensures { result ≡ book_number book.now x.now }
+// An unsound book, or a suffix that is not all of its own suffix under it. The question tells both.
+fn book_number(book: &[u8], x: &[u8]) -> Result<(), Refusal>
+    ensures { number_given result ≡ book_number book.now x.now }
 {
     let mut why: u8 = 0;
     let own = names::suffix(x, book, &mut why);
+    if why == 6 {
+        return Err(Refusal::UnsoundBook);
+    }
     if why != 0 {
-        return why;
+        return Err(Refusal::UnfitSuffix);
     }
     if own.len() != x.len() {
-        return 7;
+        return Err(Refusal::UnfitSuffix);
     }
-    0
+    Ok(())
 }
 
-// The refusal that an open earns, or 0.
-fn open_number(t: &[u8], book: &[u8], x: &[u8], s: usize) -> u8
+// What an open is refused for, whatever its room.
+fn open_number(t: &[u8], book: &[u8], x: &[u8], s: usize) -> Result<(), Refusal>
     requires { Opening t.now s }
-    ensures { result ≡ open_number (desk_at t.now s) book.now x.now }
+    ensures { number_given result ≡ open_number (desk_at t.now s) book.now x.now }
 {
-    let why = book_number(book, x);
-    if why != 0 {
-        return why;
-    }
+    book_number(book, x)?;
     if live_tabs(t, s) == 10 {
-        return 8;
+        return Err(Refusal::TooManyTabs);
     }
     if is_spent(t, s) {
-        return 9;
+        return Err(Refusal::Spent);
     }
-    0
+    Ok(())
 }
 
 // Start process, if it is a new one.
@@ -81,7 +81,7 @@ fn send_open(t: &[u8], out: &mut [u8], s: usize, p: usize, owner: u8, x: &[u8]) 
 }
 
 // An open that nothing refuses.
-fn take(t: &mut [u8], out: &mut [u8], s: usize, x: &[u8]) -> Verdict
+fn take(t: &mut [u8], out: &mut [u8], s: usize, x: &[u8]) -> Result<Done, Refusal>
     requires { Taking t.old out.old s x.now }
     ensures { Replied t.old s (reply (open_actions (desk_at t.old s) (new_id (view t.old) s) x.now) (open_tab x.now)) out.old t.new out.new result }
 {
@@ -95,13 +95,10 @@ fn take(t: &mut [u8], out: &mut [u8], s: usize, x: &[u8]) -> Verdict
     done(3, n)
 }
 
-pub fn open(t: &mut [u8], book: &[u8], out: &mut [u8], s: usize, x: &[u8]) -> Verdict
+pub fn open(t: &mut [u8], book: &[u8], out: &mut [u8], s: usize, x: &[u8]) -> Result<Done, Refusal>
     requires { Ready t.old out.old s }
     ensures { Replied t.old s (open_rule (desk_at t.old s) book.now x.now) out.old t.new out.new result }
 {
-    let why = open_number(t, book, x, s);
-    if why != 0 {
-        return refused(why);
-    }
+    open_number(t, book, x, s)?;
     take(t, out, s, x)
 }

@@ -6,11 +6,9 @@ ghost use Rattle.rules.specs.declared.event.Event.TheVariants.{Seat, Tab, Proces
 ghost use Rattle.rules.specs.Sheet.{part, desk_at, seat_rule, tab_rule, event_rule};
 ghost use Rattle.rules.specs.Inner.{Decided, Replied, Ready, ReadyTab, PartIn, SeatIn, TabIn, EventIn, Able};
 
-use fields::place::Place;
 use frames::action::MOUSE;
-use frames::answer::refused;
 use rules::event::{Delivery, Event, Part, SeatMessage, TabMessage};
-use rules::verdict::Verdict;
+use rules::verdict::{Done, Refusal};
 use seats::keys::{key, pass};
 use seats::open::open;
 use table::find::{is_let, process_of, tab_of};
@@ -27,7 +25,14 @@ fn part_of<'e>(e: &'e [u8], p: Part) -> &'e [u8]
     &e[at..end]
 }
 
-fn from_seat(t: &mut [u8], b: &[u8], e: &[u8], out: &mut [u8], s: usize, m: SeatMessage) -> Verdict
+fn from_seat(
+    t: &mut [u8],
+    b: &[u8],
+    e: &[u8],
+    out: &mut [u8],
+    s: usize,
+    m: SeatMessage,
+) -> Result<Done, Refusal>
     requires { Ready t.old out.old s × SeatIn e.now m }
     ensures { Replied t.old s (seat_rule (desk_at t.old s) b.now e.now m) out.old t.new out.new result }
 {
@@ -46,7 +51,7 @@ fn from_tab(
     s: usize,
     k: usize,
     m: TabMessage,
-) -> Verdict
+) -> Result<Done, Refusal>
     requires { ReadyTab t.old out.old s k × TabIn e.now m }
     ensures { Replied t.old s (tab_rule (desk_at t.old s) book.now e.now k m) out.old t.new out.new result }
 {
@@ -73,12 +78,12 @@ fn seat_sends(
     out: &mut [u8],
     s: usize,
     m: SeatMessage,
-) -> Verdict
+) -> Result<Done, Refusal>
     requires { Able t.old out.old × SeatIn e.now m }
     ensures { Decided (event_rule t.old book.now e.now (Seat s m)) out.old t.new out.new result }
 {
     if !is_let(t, s) {
-        return refused(4);
+        return Err(Refusal::NotLive);
     }
     from_seat(t, book, e, out, s, m)
 }
@@ -90,15 +95,12 @@ fn tab_sends(
     out: &mut [u8],
     i: usize,
     m: TabMessage,
-) -> Verdict
+) -> Result<Done, Refusal>
     requires { Able t.old out.old × TabIn e.now m }
     ensures { Decided (event_rule t.old book.now e.now (Tab i m)) out.old t.new out.new result }
 {
-    let place = tab_of(t, i);
-    match place {
-        Place::Nowhere => refused(4),
-        Place::At { seat, slot } => from_tab(t, book, e, out, seat, slot, m),
-    }
+    let place = tab_of(t, i).ok_or(Refusal::NotLive)?;
+    from_tab(t, book, e, out, place.seat, place.slot, m)
 }
 
 fn process_sends(
@@ -108,38 +110,37 @@ fn process_sends(
     out: &mut [u8],
     n: usize,
     d: Delivery,
-) -> Verdict
+) -> Result<Done, Refusal>
     requires { Able t.old out.old × PartIn e.now d.body }
     ensures { Decided (event_rule t.old book.now e.now (Process n d)) out.old t.new out.new result }
 {
     if process_of(t, n) == 0 {
-        return refused(4);
+        return Err(Refusal::NotLive);
     }
-    let body = d.body;
-    let place = tab_of(t, d.tab);
-    match place {
-        Place::Nowhere => refused(10),
-        Place::At { seat, slot } => result(t, out, seat, slot, n, part_of(e, body)),
-    }
+    let place = tab_of(t, d.tab).ok_or(Refusal::NotAwaited)?;
+    result(t, out, place.seat, place.slot, n, part_of(e, d.body))
 }
 
-fn network_sends(t: &mut [u8], b: &[u8], e: &[u8], out: &mut [u8], n: usize, d: Delivery) -> Verdict
+fn network_sends(
+    t: &mut [u8],
+    b: &[u8],
+    e: &[u8],
+    out: &mut [u8],
+    n: usize,
+    d: Delivery,
+) -> Result<Done, Refusal>
     requires { Able t.old out.old × PartIn e.now d.body }
     ensures { Decided (event_rule t.old b.now e.now (Network n d)) out.old t.new out.new result }
 {
     if n != 0 {
-        return refused(4);
+        return Err(Refusal::NotLive);
     }
-    let body = d.body;
-    let place = tab_of(t, d.tab);
-    match place {
-        Place::Nowhere => refused(10),
-        Place::At { seat, slot } => document(t, out, seat, slot, part_of(e, body)),
-    }
+    let place = tab_of(t, d.tab).ok_or(Refusal::NotAwaited)?;
+    document(t, out, place.seat, place.slot, part_of(e, d.body))
 }
 
 // An event of a sound table, with room enough.
-pub fn serve(t: &mut [u8], book: &[u8], e: &[u8], out: &mut [u8], v: Event) -> Verdict
+pub fn serve(t: &mut [u8], book: &[u8], e: &[u8], out: &mut [u8], v: Event) -> Result<Done, Refusal>
     requires { Able t.old out.old × EventIn e.now v }
     ensures { Decided (event_rule t.old book.now e.now v) out.old t.new out.new result }
 {

@@ -52,22 +52,22 @@ fn slot_of(t: &[u8], s: usize, n: usize) -> usize
 }
 
 // The live tab of an id.
-pub fn tab_of(t: &[u8], id: usize) -> Place
+pub fn tab_of(t: &[u8], id: usize) -> Option<Place>
     requires { length t.now ≡ table_bytes }
     ensures { result ≡ tab_of (view t.now) id }
 {
     let s = seat_of_id(id);
     if s == 0 {
-        return Place::Nowhere;
+        return None;
     }
     if SEATS < s {
-        return Place::Nowhere;
+        return None;
     }
     let k = slot_of(t, s, serial_of_id(id));
     if k == 0 {
-        return Place::Nowhere;
+        return None;
     }
-    Place::At { seat: s, slot: k }
+    Some(Place { seat: s, slot: k })
 }
 
 fn is_numbered(t: &[u8], p: usize, n: usize) -> bool

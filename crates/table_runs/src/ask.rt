@@ -22,15 +22,15 @@ fn cut(rt: &impl Print, t: &[u8], l: &[u8], n: usize) {
     say::test(rt, b" sound", soundness::sound(&room[0..n]));
 }
 
-fn say_place(rt: &impl Print, p: Place, label: &[u8]) {
+fn say_place(rt: &impl Print, p: Option<Place>, label: &[u8]) {
     match p {
-        Place::At { seat, slot } => {
+        Some(Place { seat, slot }) => {
             say::text(rt, label);
             say::spaced(rt, seat);
             say::spaced(rt, slot);
             say::end(rt);
         }
-        Place::Nowhere => say::told(rt, label, b"nowhere"),
+        None => say::told(rt, label, b"nowhere"),
     }
 }
 

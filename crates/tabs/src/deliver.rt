@@ -7,10 +7,10 @@ ghost use Rattle.rules.specs.Inner.{Replied, ReadyTab, Awaited};
 
 use fields::mark::Mark;
 use frames::action::{COOKIE, DOCUMENT, TAB};
-use frames::answer::{done, refused};
+use frames::answer::done;
 use frames::desk::{id, process};
 use frames::send::send_raw;
-use rules::verdict::Verdict;
+use rules::verdict::{Done, Refusal};
 use table::mark::{clear_mark, is_waiting};
 
 // The tab hangs on process n and waits for a cookie.
@@ -27,7 +27,15 @@ fn is_asked(t: &[u8], s: usize, k: usize, n: usize) -> bool
 }
 
 // To a tab that waits for it, which then waits no more.
-fn pass_on(t: &mut [u8], out: &mut [u8], s: usize, k: usize, tag: u8, m: Mark, x: &[u8]) -> Verdict
+fn pass_on(
+    t: &mut [u8],
+    out: &mut [u8],
+    s: usize,
+    k: usize,
+    tag: u8,
+    m: Mark,
+    x: &[u8],
+) -> Result<Done, Refusal>
     requires { Awaited t.old out.old s k m x.now }
     ensures { Replied t.old s (reply (framed 2 ((desk_at t.old s).id k) tag x.now ∷ []) (clear_mark k m)) out.old t.new out.new result }
 {
@@ -36,22 +44,29 @@ fn pass_on(t: &mut [u8], out: &mut [u8], s: usize, k: usize, tag: u8, m: Mark, x
     done(1, n)
 }
 
-pub fn result(t: &mut [u8], out: &mut [u8], s: usize, k: usize, n: usize, x: &[u8]) -> Verdict
+pub fn result(
+    t: &mut [u8],
+    out: &mut [u8],
+    s: usize,
+    k: usize,
+    n: usize,
+    x: &[u8],
+) -> Result<Done, Refusal>
     requires { ReadyTab t.old out.old s k × (length x.now ≤ 4096) }
     ensures { Replied t.old s (result_rule (desk_at t.old s) n k x.now) out.old t.new out.new result }
 {
     if !is_asked(t, s, k, n) {
-        return refused(10);
+        return Err(Refusal::NotAwaited);
     }
     pass_on(t, out, s, k, COOKIE, Mark::Cookie, x)
 }
 
-pub fn document(t: &mut [u8], out: &mut [u8], s: usize, k: usize, x: &[u8]) -> Verdict
+pub fn document(t: &mut [u8], out: &mut [u8], s: usize, k: usize, x: &[u8]) -> Result<Done, Refusal>
     requires { ReadyTab t.old out.old s k × (length x.now ≤ 4096) }
     ensures { Replied t.old s (document_rule (desk_at t.old s) k x.now) out.old t.new out.new result }
 {
     if !is_waiting(t, s, k, Mark::Document) {
-        return refused(10);
+        return Err(Refusal::NotAwaited);
     }
     pass_on(t, out, s, k, DOCUMENT, Mark::Document, x)
 }

@@ -16,11 +16,11 @@ use frames::answer::done;
 use frames::desk::{id, process, suffix};
 use frames::put::{four, two};
 use frames::send::{send, send_bare, send_name, send_raw};
-use rules::verdict::Verdict;
+use rules::verdict::{Done, Refusal};
 use table::mark::{is_waiting, set_mark};
 
 // One error action to the tab.
-fn deny(t: &[u8], out: &mut [u8], s: usize, k: usize) -> Verdict
+fn deny(t: &[u8], out: &mut [u8], s: usize, k: usize) -> Result<Done, Refusal>
     requires { ReadyTab t.now out.old s k }
     ensures { Replied t.now s (reply (error ((desk_at t.now s).id k) ∷ []) stay) out.old t.now out.new result }
 {
@@ -28,7 +28,7 @@ fn deny(t: &[u8], out: &mut [u8], s: usize, k: usize) -> Verdict
     done(1, n)
 }
 
-pub fn display(t: &[u8], out: &mut [u8], s: usize, k: usize, x: &[u8]) -> Verdict
+pub fn display(t: &[u8], out: &mut [u8], s: usize, k: usize, x: &[u8]) -> Result<Done, Refusal>
     requires { ReadyTab t.now out.old s k × (length x.now ≤ 4096) }
     ensures { Replied t.now s (display_rule (desk_at t.now s) k x.now) out.old t.now out.new result }
 {
@@ -39,7 +39,14 @@ pub fn display(t: &[u8], out: &mut [u8], s: usize, k: usize, x: &[u8]) -> Verdic
     done(1, n)
 }
 
-pub fn socket(t: &[u8], out: &mut [u8], s: usize, k: usize, port: usize, host: &[u8]) -> Verdict
+pub fn socket(
+    t: &[u8],
+    out: &mut [u8],
+    s: usize,
+    k: usize,
+    port: usize,
+    host: &[u8],
+) -> Result<Done, Refusal>
     requires { ReadyTab t.now out.old s k × (2 + length host.now ≤ 4096) × (port < 65536) }
     ensures { Replied t.now s (socket_rule (desk_at t.now s) k port host.now) out.old t.now out.new result }
 {
@@ -61,7 +68,7 @@ fn may_fetch(t: &[u8], s: usize, k: usize, u: &[u8]) -> bool
     !is_waiting(t, s, k, Mark::Document)
 }
 
-pub fn url(t: &mut [u8], out: &mut [u8], s: usize, k: usize, u: &[u8]) -> Verdict
+pub fn url(t: &mut [u8], out: &mut [u8], s: usize, k: usize, u: &[u8]) -> Result<Done, Refusal>
     requires { ReadyTab t.old out.old s k × (length u.now ≤ 4096) }
     ensures { Replied t.old s (url_rule (desk_at t.old s) k u.now) out.old t.new out.new result }
 {
@@ -73,7 +80,14 @@ pub fn url(t: &mut [u8], out: &mut [u8], s: usize, k: usize, u: &[u8]) -> Verdic
     done(1, n)
 }
 
-pub fn store(t: &[u8], out: &mut [u8], s: usize, k: usize, domain: &[u8], x: &[u8]) -> Verdict
+pub fn store(
+    t: &[u8],
+    out: &mut [u8],
+    s: usize,
+    k: usize,
+    domain: &[u8],
+    x: &[u8],
+) -> Result<Done, Refusal>
     requires { ReadyTab t.now out.old s k × (1 + length domain.now + length x.now ≤ 4096) × (length domain.now < 256) }
     ensures { Replied t.now s (store_rule (desk_at t.now s) k domain.now x.now) out.old t.now out.new result }
 {
@@ -95,7 +109,13 @@ fn may_retrieve(t: &[u8], s: usize, k: usize, domain: &[u8]) -> bool
     !is_waiting(t, s, k, Mark::Cookie)
 }
 
-pub fn retrieve(t: &mut [u8], out: &mut [u8], s: usize, k: usize, domain: &[u8]) -> Verdict
+pub fn retrieve(
+    t: &mut [u8],
+    out: &mut [u8],
+    s: usize,
+    k: usize,
+    domain: &[u8],
+) -> Result<Done, Refusal>
     requires { ReadyTab t.old out.old s k }
     ensures { Replied t.old s (retrieve_rule (desk_at t.old s) k domain.now) out.old t.new out.new result }
 {

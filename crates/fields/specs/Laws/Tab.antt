@@ -1,9 +1,9 @@
 -- The tab of an id: what is found is live and has that id, and what is live is found. With the layout laws these know how an id is
 -- made. Assumes nothing.
 use Rattle.std.proofs.Math.Path.{◌≡◌, refl, sym, subst}
-use Rattle.std.proofs.Common.{ap₂, ◌∙◌, arith}
+use Rattle.std.proofs.Common.{ap, ap₂, ◌∙◌, arith}
 use Rattle.std.proofs.Math.Bool.{Bool, true, false, cond}
-use Rattle.std.specs.Prelude.{◌&&◌, ◌≢◌}
+use Rattle.std.specs.Prelude.{◌&&◌, ◌≢◌, Some, None}
 use Prim.Native.Nat.{ℕ, ◌+◌, ◌*◌, ◌≤◌}
 use Rattle.std.proofs.Math.Dec.{eqb}
 use borrow.Author.Tests.{eq-eqb, ne_eqb, eqb-true, eqb-false}
@@ -13,8 +13,8 @@ use Rattle.fields.specs.Base.{lowest}
 use Rattle.fields.specs.Rule.View.{View, serial}
 use Rattle.fields.specs.Rule.Layout.{form, most_opens, tab_id, seat_of_id, serial_of_id}
 use Rattle.fields.specs.Rule.Word.{live}
-use Rattle.fields.specs.Rule.Find.{slot_of, place_in, tab_of}
-use Rattle.fields.specs.declared.place.Place.TheVariants.{Nowhere, At}
+use Rattle.fields.specs.Rule.Find.{placed, slot_of, place_in, tab_of}
+use Rattle.fields.specs.declared.place.Place.{Place}
 use Rattle.fields.specs.Laws.Lowest.{lowest_at, lowest_is}
 use Rattle.fields.specs.Laws.Sound.{Sound}
 
@@ -37,15 +37,17 @@ module _ (v : View) where
         eqb-true (v (serial s k)) n (and_right (live v s k) (eqb (v (serial s k)) n) w.passes),
       )
 
-  place_at : (x y s k : ℕ) → place_in x y ≡ At s k → (y ≢ 0) × (x ≡ s) × (y ≡ k)
+  place_at : (x y s k : ℕ) → place_in x y ≡ Some (placed s k) → (y ≢ 0) × (x ≡ s) × (y ≡ k)
   unfolding place_in
   place_at x y s k = go (eqb y 0) refl
     where
-      go : (b : Bool) → eqb y 0 ≡ b → cond b Nowhere (At x y) ≡ At s k → (y ≢ 0) × (x ≡ s) × (y ≡ k)
+      go : (b : Bool) → eqb y 0 ≡ b → cond b None (Some (placed x y)) ≡ Some (placed s k) → (y ≢ 0) × (x ≡ s) × (y ≡ k)
       go true e h = let z : ◌≡◌ {A = ℕ} 0 1 = cc in absurd (omega arith)
-      go false e h = (eqb-false y 0 e, (cc), (cc))
+      go false e h =
+          let p : placed x y ≡ placed s k = cc in
+          (eqb-false y 0 e, ap (λ (q : Place). q.seat) p, ap (λ (q : Place). q.slot) p)
 
-  pub tab_of_lem : (i s k : ℕ) → tab_of v i ≡ At s k → LiveAt i s k
+  pub tab_of_lem : (i s k : ℕ) → tab_of v i ≡ Some (placed s k) → LiveAt i s k
   unfolding tab_of
   tab_of_lem i s k e =
       let a = place_at (seat_of_id i) (slot_of v (seat_of_id i) (serial_of_id i)) s k e in
@@ -88,7 +90,7 @@ id_whole i = omega arith
 
 -- a live tab is found by its id, and by no other slot's
 pub tab_found : (v : View) (s k : ℕ) → Sound most_opens v → Range 1 8 s → Range 1 10 k → live v s k ≡ true
-    → tab_of v (tab_id s (v (serial s k))) ≡ At s k
+    → tab_of v (tab_id s (v (serial s k))) ≡ Some (placed s k)
 unfolding tab_of place_in slot_of
 tab_found v s k w r q l =
     let n = v (serial s k) in

@@ -1,13 +1,12 @@
 -- What is looked up in a table, document 01, "Rules of a step" and "Numbers given back": the tab of an id, the process of a
 -- number, the process of an owner and a suffix, the lowest free slot and process row. 0 says that there is none. Assumes nothing.
-use Rattle.std.specs.Prelude.{ℕ, Bool, not, ◌&&◌, cond, List, eqb}
+use Rattle.std.specs.Prelude.{ℕ, Bool, not, ◌&&◌, cond, List, eqb, Option, Some, None}
 use Rattle.terms.specs.Names.{same}
 use Rattle.fields.specs.Base.{count, lowest}
 use Rattle.fields.specs.Rule.View.{View, serial, number, owner}
 use Rattle.fields.specs.Rule.Layout.{seat_of_id, serial_of_id}
 use Rattle.fields.specs.Rule.Word.{live, used, name_of}
 use Rattle.fields.specs.declared.place.Place.{Place}
-use Rattle.fields.specs.declared.place.Place.TheVariants.{Nowhere, At}
 
 -- what is sought: a live tab with a serial, a live process with a number, a live process of an owner with a suffix. They are open
 -- (`abbrev`), as the words of Base are.
@@ -24,11 +23,14 @@ row_with v o name p = used v p && eqb (v (owner p)) o && same (name_of v p) name
 unfoldable pub slot_of : View → ℕ → ℕ → ℕ
 slot_of v s n = lowest 10 (λ k. tab_has v s n k)
 
--- "tab or process not live": where the tab of an id is live, and in which row the process of a number
-unfoldable pub place_in : ℕ → ℕ → Place
-place_in s k = cond (eqb k 0) Nowhere (At s k)
+abbrev pub placed : ℕ → ℕ → Place
+placed s k = record { seat = s; slot = k }
 
-unfoldable pub tab_of : View → ℕ → Place
+-- "tab or process not live": where the tab of an id is live, and in which row the process of a number
+unfoldable pub place_in : ℕ → ℕ → Option Place
+place_in s k = cond (eqb k 0) None (Some (placed s k))
+
+unfoldable pub tab_of : View → ℕ → Option Place
 tab_of v i = place_in (seat_of_id i) (slot_of v (seat_of_id i) (serial_of_id i))
 
 unfoldable pub process_of : View → ℕ → ℕ

@@ -1,5 +1,5 @@
 -- What table/src/find.rt finds at each of its exits. Assumes nothing.
-use Rattle.std.specs.Prelude.{◌≡◌, refl, Bool, true, false, not, ◌≢◌, List, ℕ, ◌≤◌, ◌<◌, eqb}
+use Rattle.std.specs.Prelude.{◌≡◌, refl, Bool, true, false, not, ◌≢◌, List, ℕ, ◌≤◌, ◌<◌, eqb, Some, None}
 use Rattle.std.proofs.Math.Path.{sym}
 use Rattle.std.proofs.Common.{ap, ◌∙◌, arith}
 use Rattle.std.proofs.Math.Bool.{and-false}
@@ -10,8 +10,7 @@ use Rattle.terms.specs.Laws.Bools.{cases, within_at, fails}
 use Rattle.fields.specs.Rule.View.{View, there, tenant, serial, number, owner}
 use Rattle.fields.specs.Rule.Layout.{view, seat_of_id, serial_of_id}
 use Rattle.fields.specs.Rule.Word.{live, used, name_of}
-use Rattle.fields.specs.Rule.Find.{tab_has, row_has, row_with, slot_of, place_in, tab_of, process_of, process_with, free_process}
-use Rattle.fields.specs.declared.place.Place.TheVariants.{Nowhere, At}
+use Rattle.fields.specs.Rule.Find.{placed, tab_has, row_has, row_with, slot_of, place_in, tab_of, process_of, process_with, free_process}
 use Rattle.fields.specs.Laws.Lowest.{Found, lowest_none}
 use Rattle.fields.specs.Laws.There.{absent, live_there}
 use Rattle.fields.specs.Steps.Tab.{live_if, free_if}
@@ -81,11 +80,11 @@ module _ (v : View) where
   unfolding tab_of
   tab_place i e f g = rw (g, e, f)
 
-  pub tab_none : {s n k : ℕ} (i : ℕ) → s ≡ seat_of_id i → n ≡ serial_of_id i → k ≡ slot_of v s n → k ≡ 0 → Nowhere ≡ tab_of v i
+  pub tab_none : {s n k : ℕ} (i : ℕ) → s ≡ seat_of_id i → n ≡ serial_of_id i → k ≡ slot_of v s n → k ≡ 0 → None ≡ tab_of v i
   unfolding place_in
   tab_none {k = k} i e f g z = rw (← tab_place i e f g, eq-eqb k 0 z)
 
-  pub tab_some : {s n k : ℕ} (i : ℕ) → s ≡ seat_of_id i → n ≡ serial_of_id i → k ≡ slot_of v s n → k ≢ 0 → At s k ≡ tab_of v i
+  pub tab_some : {s n k : ℕ} (i : ℕ) → s ≡ seat_of_id i → n ≡ serial_of_id i → k ≡ slot_of v s n → k ≢ 0 → Some (placed s k) ≡ tab_of v i
   unfolding place_in
   tab_some {k = k} i e f g h = rw (← tab_place i e f g, ne_eqb k 0 h)
 
@@ -96,12 +95,12 @@ module _ (t : List ℕ) where
   unfolding slot_of
   slot_none s n h = sym (lowest_none 10 (λ x. tab_has (view t) s n x) (λ k r. rw (fails (live (view t) s k) (h k))))
 
-  pub tab_low : {s : ℕ} (i : ℕ) → s ≡ seat_of_id i → s ≡ 0 → Nowhere ≡ tab_of (view t) i
+  pub tab_low : {s : ℕ} (i : ℕ) → s ≡ seat_of_id i → s ≡ 0 → None ≡ tab_of (view t) i
   tab_low {s} i e z =
       tab_none (view t) i e refl
       (slot_none s (serial_of_id i) (λ k l. let a = (live_there t s k l).0.low in omega arith)) refl
 
-  pub tab_high : {s : ℕ} (i : ℕ) → s ≡ seat_of_id i → 8 < s → Nowhere ≡ tab_of (view t) i
+  pub tab_high : {s : ℕ} (i : ℕ) → s ≡ seat_of_id i → 8 < s → None ≡ tab_of (view t) i
   tab_high {s} i e h =
       tab_none (view t) i e refl
       (slot_none s (serial_of_id i) (λ k l. let a = (live_there t s k l).0.high in omega arith)) refl

@@ -3,11 +3,11 @@ use Rattle.std.proofs.Common.{rules}
 use Rattle.rules.proofs.Steps.Step.{start_long, start_book, start_done}
 use Rattle.kernel.proofs.stewlattice_start.Goals as goal
 
-pub returns-then-not-long : goal.returns-then-not-long
-returns-then-not-long c = search (rules, start_long)
+pub returns-then-not-is_long : goal.returns-then-not-is_long
+returns-then-not-is_long c = search (rules, start_long)
 
-pub returns-then-not-sound : goal.returns-then-not-sound
-returns-then-not-sound c = search (rules, start_book)
+pub returns-then-not-is_sound : goal.returns-then-not-is_sound
+returns-then-not-is_sound c = search (rules, start_book)
 
 pub returns : goal.returns
 returns c = search (rules, start_done)

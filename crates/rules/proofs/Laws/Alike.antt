@@ -1,10 +1,9 @@
 -- Two replies, and two outcomes, with one number and with actions that S relates: by what they are made of. Assumes nothing.
-use Rattle.std.specs.Prelude.{ℕ, ◌≡◌, Bool, true, false, cond, List, [], ◌∷◌}
+use Rattle.std.specs.Prelude.{ℕ, ◌≡◌, Bool, true, false, cond, List, [], ◌∷◌, Option, Some, None}
 use Rattle.std.proofs.Math.Path.{refl, sym}
 use Rattle.std.proofs.Common.{ap₂, ◌∙◌}
 use Rattle.fields.specs.Table.{view, tab_id, tab_of}
 use Rattle.fields.specs.declared.place.Place.{Place}
-use Rattle.fields.specs.declared.place.Place.TheVariants.{Nowhere, At}
 use Rattle.fields.specs.Laws.Tab.{tab_of_lem}
 use Rattle.rules.specs.Rule.Frame.{Frame}
 use Rattle.rules.specs.Rule.Action.{error}
@@ -43,13 +42,13 @@ module _ (S : List Frame → List Frame → Type 0) where
     unfolding at_tab refused made
     at_alike none n = go (tab_of (view t₁) i) (tab_of (view t₂) i) refl refl
       where
-        go : (p q : Place) → tab_of (view t₁) i ≡ p → tab_of (view t₂) i ≡ q → Both t₁ t₂ R p q
+        go : (p q : Option Place) → tab_of (view t₁) i ≡ p → tab_of (view t₂) i ≡ q → Both t₁ t₂ R p q
             → Outcomes S (at_tab t₁ n p f) (at_tab t₂ n q g)
-        go Nowhere Nowhere x y h = (refl, none)
-        go (At s k) (At r j) x y h =
-            let a = tab_of_lem (view t₁) i s k x in
-            let b = tab_of_lem (view t₂) i r j y in
+        go None None x y h = (refl, none)
+        go (Some p) (Some q) x y h =
+            let a = tab_of_lem (view t₁) i p.seat p.slot x in
+            let b = tab_of_lem (view t₂) i q.seat q.slot y in
             let seat = a.seat_is ∙ sym b.seat_is in
-            alike s r k j seat (ap₂ tab_id seat (a.serial_is ∙ sym b.serial_is)) h
-        go Nowhere (At r j) x y h = absurd h
-        go (At s k) Nowhere x y h = absurd h
+            alike p.seat q.seat p.slot q.slot seat (ap₂ tab_id seat (a.serial_is ∙ sym b.serial_is)) h
+        go None (Some q) x y h = absurd h
+        go (Some p) None x y h = absurd h

@@ -1,6 +1,6 @@
 -- What a tab's event is answered depends on nothing but that tab: of two tables in which it is live with one suffix, waits for the
 -- same and is selected alike, the rules give the same, but for the number of its process. Assumes nothing.
-use Rattle.std.specs.Prelude.{◌≡◌, false, List, [], ◌∷◌, map, ℕ, ◌+◌, length, eqb}
+use Rattle.std.specs.Prelude.{◌≡◌, false, List, [], ◌∷◌, map, ℕ, ◌+◌, length, eqb, Option, Some, None}
 use Rattle.std.proofs.Math.Path.{refl}
 use Rattle.std.proofs.Common.{sym, ap, ◌∙◌, arith}
 use Rattle.std.proofs.lemmas.List.{length-map}
@@ -18,8 +18,6 @@ use Rattle.rules.specs.declared.event.TabMessage.{TabMessage}
 use Rattle.rules.specs.declared.event.TabMessage.TheVariants.{Display, Socket, Url, Store, Retrieve}
 use Rattle.rules.specs.declared.event.Event.{Event}
 use Rattle.rules.specs.declared.event.Event.TheVariants.{Tab}
-use Rattle.rules.specs.declared.event.Reading.{Reading}
-use Rattle.rules.specs.declared.event.Reading.TheVariants.{Whole, Malformed}
 use Rattle.rules.proofs.Laws.Frame.{length_frames}
 use Rattle.rules.proofs.Laws.Line.{Line, key, mouse, opening, display, socket, url, store, retrieve, result}
 use Rattle.rules.proofs.Laws.Line.{document, read_line}
@@ -112,6 +110,6 @@ module _ (t₁ t₂ : List ℕ) where
     unfolding read_rule refused
     read_peers = go (reading_of e) refl
       where
-        go : (r : Reading) → reading_of e ≡ r → Outcomes (Looks t₁ t₂) (read_rule t₁ b₁ e r) (read_rule t₂ b₂ e r)
-        go Malformed q = (refl, refl)
-        go (Whole v) q = line_peers (read_line e v q)
+        go : (r : Option Event) → reading_of e ≡ r → Outcomes (Looks t₁ t₂) (read_rule t₁ b₁ e r) (read_rule t₂ b₂ e r)
+        go None q = (refl, refl)
+        go (Some v) q = line_peers (read_line e v q)

@@ -1,6 +1,6 @@
 -- What a step does not depend on: any room that is enough is as good as another, and the book is read for an open only. Assumes
 -- nothing.
-use Rattle.std.specs.Prelude.{◌≡◌, true, ◌≢◌, ◌⊎◌, List, ℕ, ◌≤◌, get_or}
+use Rattle.std.specs.Prelude.{◌≡◌, true, ◌≢◌, ◌⊎◌, List, ℕ, ◌≤◌, get_or, Option, Some, None}
 use Rattle.std.proofs.Math.Path.{refl}
 use Rattle.std.proofs.Common.{⊎_elim, le-ltb}
 use Rattle.fields.specs.Table.{sound_table}
@@ -9,8 +9,6 @@ use Rattle.rules.specs.Rule.Seat.{seat_rule}
 use Rattle.rules.specs.Rule.Tab.{tab_rule}
 use Rattle.rules.specs.Rule.Step.{event_rule, read_rule, room_needed, step_of}
 use Rattle.rules.specs.declared.event.Event.{Event}
-use Rattle.rules.specs.declared.event.Reading.{Reading}
-use Rattle.rules.specs.declared.event.Reading.TheVariants.{Whole, Malformed}
 use Rattle.rules.proofs.Laws.Line.{Line, key, mouse, opening, display, socket, url, store, retrieve, result}
 use Rattle.rules.proofs.Laws.Line.{document, read_line}
 
@@ -34,10 +32,10 @@ module _ (t b b' e : List ℕ) (other : (get_or e 0 0 ≢ 1) ⊎ (get_or e 5 0 �
   line_any_book (result h n) = refl
   line_any_book (document h n) = refl
 
-  read_any_book : (r : Reading) → reading_of e ≡ r → read_rule t b e r ≡ read_rule t b' e r
+  read_any_book : (r : Option Event) → reading_of e ≡ r → read_rule t b e r ≡ read_rule t b' e r
   unfolding read_rule
-  read_any_book Malformed h = refl
-  read_any_book (Whole v) h = line_any_book (read_line e v h)
+  read_any_book None h = refl
+  read_any_book (Some v) h = line_any_book (read_line e v h)
 
   -- any two books, where the event is no open
   pub any_book : read_rule t b e (reading_of e) ≡ read_rule t b' e (reading_of e)

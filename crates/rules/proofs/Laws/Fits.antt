@@ -1,6 +1,6 @@
 -- The bytes of a frame that fits its tag are read as that event, line by line of the document's table of events; and what is read
 -- fits its tag. Assumes nothing.
-use Rattle.std.specs.Prelude.{ℕ, ◌+◌, ◌-◌, ◌≤◌, ◌<◌, ◌≡◌, List, ◌++◌, length, drop}
+use Rattle.std.specs.Prelude.{ℕ, ◌+◌, ◌-◌, ◌≤◌, ◌<◌, ◌≡◌, List, ◌++◌, length, drop, Some}
 use Rattle.std.proofs.Common.{ap, ap₂, subst, ◌∙◌, arith, length-append, length-drop, length-take-le}
 use Rattle.std.proofs.Math.ListN.{get_or}
 use borrow.Author.Tests.{le-leb, eq-eqb}
@@ -16,7 +16,6 @@ use Rattle.rules.specs.declared.event.Event.{Event}
 use Rattle.rules.specs.declared.event.Event.TheVariants.{Seat, Tab, Process, Network}
 use Rattle.rules.specs.declared.event.SeatMessage.TheVariants.{Key, Mouse, Open}
 use Rattle.rules.specs.declared.event.TabMessage.TheVariants.{Display, Socket, Url, Store, Retrieve}
-use Rattle.rules.specs.declared.event.Reading.TheVariants.{Whole}
 use Rattle.rules.proofs.Laws.Frame.{length_be}
 use Rattle.rules.proofs.Laws.Line.{Line, key, mouse, opening, display, socket, url, store, retrieve, result}
 use Rattle.rules.proofs.Laws.Line.{document, read_line}
@@ -27,51 +26,51 @@ use Rattle.rules.proofs.Laws.Reads.{stored_domain, stored_cookie}
 -- ---- line by line
 
 module _ (e : List ℕ) (i : ℕ) (x : List ℕ) where
-  pub key_reads : Reads e 1 i 1 x → length x ≡ 1 → reading_of e ≡ Whole (Seat i (Key (get_or e 10 0)))
+  pub key_reads : Reads e 1 i 1 x → length x ≡ 1 → reading_of e ≡ Some (Seat i (Key (get_or e 10 0)))
   unfolding reading_of sent_by from_seat when
   key_reads w n =
       let l = w.long in rw (w.whole, w.party=, w.id=, w.tag=, eq-eqb (length e - 10) 1 (omega arith))
 
-  mouse_reads : Reads e 1 i 2 x → length x ≡ 4 → reading_of e ≡ Whole (Seat i (Mouse (rest e 0)))
+  mouse_reads : Reads e 1 i 2 x → length x ≡ 4 → reading_of e ≡ Some (Seat i (Mouse (rest e 0)))
   unfolding reading_of sent_by from_seat when
   mouse_reads w n =
       let l = w.long in rw (w.whole, w.party=, w.id=, w.tag=, eq-eqb (length e - 10) 4 (omega arith))
 
-  pub open_reads : Reads e 1 i 3 x → reading_of e ≡ Whole (Seat i (Open (rest e 0)))
+  pub open_reads : Reads e 1 i 3 x → reading_of e ≡ Some (Seat i (Open (rest e 0)))
   unfolding reading_of sent_by from_seat
   open_reads w = rw (w.whole, w.party=, w.id=, w.tag=)
 
-  display_reads : Reads e 2 i 1 x → length x ≡ 12 → reading_of e ≡ Whole (Tab i (Display (rest e 0)))
+  display_reads : Reads e 2 i 1 x → length x ≡ 12 → reading_of e ≡ Some (Tab i (Display (rest e 0)))
   unfolding reading_of sent_by from_tab when
   display_reads w n =
       let l = w.long in rw (w.whole, w.party=, w.id=, w.tag=, eq-eqb (length e - 10) 12 (omega arith))
 
-  socket_reads : Reads e 2 i 2 x → 2 ≤ length x → reading_of e ≡ Whole (Tab i (Socket (num e 10 2) (rest e 2)))
+  socket_reads : Reads e 2 i 2 x → 2 ≤ length x → reading_of e ≡ Some (Tab i (Socket (num e 10 2) (rest e 2)))
   unfolding reading_of sent_by from_tab when
   socket_reads w n =
       let l = w.long in rw (w.whole, w.party=, w.id=, w.tag=, le-leb 2 (length e - 10) (omega arith))
 
-  pub url_reads : Reads e 2 i 3 x → reading_of e ≡ Whole (Tab i (Url (rest e 0)))
+  pub url_reads : Reads e 2 i 3 x → reading_of e ≡ Some (Tab i (Url (rest e 0)))
   unfolding reading_of sent_by from_tab
   url_reads w = rw (w.whole, w.party=, w.id=, w.tag=)
 
   pub store_reads : Reads e 2 i 4 x → 1 + get_or e 10 0 ≤ length x
-      → reading_of e ≡ Whole (Tab i (Store (field 1 (get_or e 10 0)) (rest e (1 + get_or e 10 0))))
+      → reading_of e ≡ Some (Tab i (Store (field 1 (get_or e 10 0)) (rest e (1 + get_or e 10 0))))
   unfolding reading_of sent_by from_tab when
   store_reads w n =
       let l = w.long in
       rw (w.whole, w.party=, w.id=, w.tag=, le-leb (1 + get_or e 10 0) (length e - 10) (omega arith))
 
-  pub retrieve_reads : Reads e 2 i 5 x → reading_of e ≡ Whole (Tab i (Retrieve (rest e 0)))
+  pub retrieve_reads : Reads e 2 i 5 x → reading_of e ≡ Some (Tab i (Retrieve (rest e 0)))
   unfolding reading_of sent_by from_tab
   retrieve_reads w = rw (w.whole, w.party=, w.id=, w.tag=)
 
-  pub result_reads : Reads e 3 i 1 x → 4 ≤ length x → reading_of e ≡ Whole (Process i (delivered e))
+  pub result_reads : Reads e 3 i 1 x → 4 ≤ length x → reading_of e ≡ Some (Process i (delivered e))
   unfolding reading_of sent_by when
   result_reads w n =
       let l = w.long in rw (w.whole, w.party=, w.id=, w.tag=, le-leb 4 (length e - 10) (omega arith))
 
-  pub document_reads : Reads e 4 i 1 x → 4 ≤ length x → reading_of e ≡ Whole (Network i (delivered e))
+  pub document_reads : Reads e 4 i 1 x → 4 ≤ length x → reading_of e ≡ Some (Network i (delivered e))
   unfolding reading_of sent_by when
   document_reads w n =
       let l = w.long in rw (w.whole, w.party=, w.id=, w.tag=, le-leb 4 (length e - 10) (omega arith))
@@ -167,5 +166,5 @@ line_fits e g (retrieve h) = retrieve_sent _ _
 line_fits e g (result h l) = result_sent _ _ _ (num_lt e 10 4 g)
 line_fits e g (document h l) = document_sent _ _ _ (num_lt e 10 4 g)
 
-pub read_fits : (e : List ℕ) (v : Event) → Bytes e → reading_of e ≡ Whole v → FitsTag (event_frame e v)
+pub read_fits : (e : List ℕ) (v : Event) → Bytes e → reading_of e ≡ Some v → FitsTag (event_frame e v)
 read_fits e v g h = line_fits e g (read_line e v h)

@@ -1,7 +1,7 @@
 -- What a call does, said forward: a start with a sound book, an open that the table takes, a close that ends a process. `Happens`
 -- says what a step can come to; here is when it comes to these, for an event that is a frame's bytes. ForwardTab has the like of
 -- tabs. Assumes nothing.
-use Rattle.std.specs.Prelude.{ℕ, ◌≤◌, ◌≡◌, true, ◌≢◌, List, [], ◌∷◌, length}
+use Rattle.std.specs.Prelude.{ℕ, ◌≤◌, ◌≡◌, true, ◌≢◌, List, [], ◌∷◌, length, Some}
 use Rattle.std.proofs.Math.Path.{ap}
 use Rattle.std.proofs.Common.{◌∙◌, arith}
 use borrow.Author.Tests.{le-ltb, eq-eqb, ne_eqb}
@@ -20,7 +20,6 @@ use Rattle.rules.specs.Rule.Step.{made, event_rule, read_rule, room_needed, step
 use Rattle.rules.specs.declared.event.Event.{Event}
 use Rattle.rules.specs.declared.event.Event.TheVariants.{Seat}
 use Rattle.rules.specs.declared.event.SeatMessage.{SeatMessage}
-use Rattle.rules.specs.declared.event.Reading.TheVariants.{Whole}
 use Rattle.rules.proofs.Laws.Frame.{length_be}
 use Rattle.rules.proofs.Laws.Reads.{frame_reads, all_of_lem, key_of}
 use Rattle.rules.proofs.Laws.Fits.{key_reads, open_reads}
@@ -48,11 +47,11 @@ domain_of domain suffix n u = and_both (is_name domain) (under domain suffix) n 
 -- ---- an event that is read, in a sound table and with room enough
 
 module _ (room : ℕ) (t b e : List ℕ) (enough : room_needed ≤ room) (sound : sound_table t ≡ true) where
-  pub step_reads : (v : Event) → reading_of e ≡ Whole v → step_of room t b e ≡ event_rule t b e v
+  pub step_reads : (v : Event) → reading_of e ≡ Some v → step_of room t b e ≡ event_rule t b e v
   unfolding step_of read_rule
   step_reads v h = rw (le-ltb room room_needed enough, sound, h)
 
-  seat_does : (s : ℕ) (m : SeatMessage) → reading_of e ≡ Whole (Seat s m) → view t (tenant s) ≢ 0
+  seat_does : (s : ℕ) (m : SeatMessage) → reading_of e ≡ Some (Seat s m) → view t (tenant s) ≢ 0
       → step_of room t b e ≡ made t s (seat_rule (desk_at t s) b e m)
   unfolding event_rule
   seat_does s m h l = rw (step_reads (Seat s m) h, ne_eqb (view t (tenant s)) 0 l)

@@ -1,6 +1,6 @@
 -- What a step does, said forward: a cookie that a tab may store or ask for, a URL that it may ask for, and the cookie and the
 -- document that it waits for. Assumes nothing.
-use Rattle.std.specs.Prelude.{ℕ, ◌+◌, ◌≤◌, ◌<◌, ◌≡◌, true, false, List, [], ◌∷◌, ◌++◌}
+use Rattle.std.specs.Prelude.{ℕ, ◌+◌, ◌≤◌, ◌<◌, ◌≡◌, true, false, List, [], ◌∷◌, ◌++◌, Some}
 use Rattle.std.proofs.Math.Path.{ap, ap₂}
 use Rattle.std.proofs.Common.{◌∙◌, arith, length-append, eq-eqb, ne_eqb}
 use Rattle.std.proofs.Math.ListN.{length}
@@ -18,7 +18,6 @@ use Rattle.rules.specs.Rule.Tab.{ask, url_rule, store_rule, retrieve_rule, tab_r
 use Rattle.rules.specs.Rule.Step.{made, at_tab, event_rule, room_needed, step_of}
 use Rattle.rules.specs.declared.event.Event.TheVariants.{Tab}
 use Rattle.rules.specs.declared.event.TabMessage.{TabMessage}
-use Rattle.rules.specs.declared.event.Reading.TheVariants.{Whole}
 use Rattle.rules.proofs.Laws.Frame.{length_be}
 use Rattle.rules.proofs.Laws.Reads.{frame_reads, all_of_lem, tab_of_lem, body_of, stored_size, stored_domain, stored_cookie}
 use Rattle.rules.proofs.Laws.Fits.{url_reads, store_reads, retrieve_reads, result_reads, document_reads}
@@ -58,7 +57,7 @@ module _ (t : List ℕ) {i s k : ℕ} (w : TabAt t i s k) where
   -- ---- an event that is a frame's bytes, in a sound table and with room enough
 
   module _ (room : ℕ) (b : List ℕ) (enough : room_needed ≤ room) (sound : sound_table t ≡ true) (small : i < 4294967296) where
-    tab_does : (e : List ℕ) (m : TabMessage) → reading_of e ≡ Whole (Tab i m)
+    tab_does : (e : List ℕ) (m : TabMessage) → reading_of e ≡ Some (Tab i m)
         → step_of room t b e ≡ made t s (tab_rule (desk_at t s) b e k m)
     unfolding event_rule at_tab
     tab_does e m h = rw (step_reads room t b e enough sound (Tab i m) h, w.place)

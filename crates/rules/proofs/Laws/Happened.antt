@@ -1,23 +1,20 @@
 -- What a step of a sound table comes to is one of the outcomes that Happens lists, for every event. Assumes nothing.
-use Rattle.std.specs.Prelude.{ℕ, ◌+◌, ◌≡◌, true, not, cond, ◌≢◌, List, drop, eqb, ltb}
+use Rattle.std.specs.Prelude.{ℕ, ◌+◌, ◌≡◌, true, not, cond, ◌≢◌, List, drop, eqb, ltb, Option, Some, None}
 use Rattle.std.proofs.Math.Path.{refl}
 use Rattle.std.proofs.Common.{sym, ap₂, ◌∙◌, arith, eqb-true}
 use Rattle.std.proofs.lemmas.Bool.{false≢true, eqb-false, not-true, not-false}
 use Rattle.std.proofs.Math.ListN.{get_or}
 use Rattle.terms.specs.Laws.Lists.{take_rest}
-use Rattle.fields.specs.Table.{tenant, view, tab_id, sound_table, tab_of, process_of}
+use Rattle.fields.specs.Table.{tenant, view, tab_id, sound_table, placed, tab_of, process_of}
 use Rattle.terms.specs.Names.{num}
 use Rattle.fields.specs.Laws.Tab.{tab_of_lem, id_whole}
 use Rattle.fields.specs.declared.place.Place.{Place}
-use Rattle.fields.specs.declared.place.Place.TheVariants.{Nowhere, At}
 use Rattle.rules.specs.Rule.Event.{part, rest, field, delivered, reading_of}
 use Rattle.rules.specs.Rule.Desk.{Desk, desk_at, Reply, id_at, TabAt}
 use Rattle.rules.specs.Rule.Seat.{seat_rule}
 use Rattle.rules.specs.Rule.Tab.{tab_rule}
 use Rattle.rules.specs.Rule.Step.{refused, made, at_tab, event_rule, read_rule, room_needed, step_of}
 use Rattle.rules.specs.declared.event.Event.{Event}
-use Rattle.rules.specs.declared.event.Reading.{Reading}
-use Rattle.rules.specs.declared.event.Reading.TheVariants.{Whole, Malformed}
 use Rattle.rules.proofs.Laws.Cases.{either}
 use Rattle.rules.proofs.Laws.Line.{Head, Line, key, mouse, opening, display, socket, url, store, retrieve, result}
 use Rattle.rules.proofs.Laws.Line.{document, read_line}
@@ -35,7 +32,7 @@ pub payload : (e : List ℕ) → part e (rest e 0) ≡ drop 10 e
 payload e = payload_from e 0
 
 -- an id is that of the tab it finds
-found_id : (t : List ℕ) (i s k : ℕ) → tab_of (view t) i ≡ At s k → i ≡ id_at t s k
+found_id : (t : List ℕ) (i s k : ℕ) → tab_of (view t) i ≡ Some (placed s k) → i ≡ id_at t s k
 found_id t i s k h =
     let w = tab_of_lem (view t) i s k h in sym (ap₂ tab_id w.seat_is w.serial_is ∙ id_whole i)
 
@@ -55,9 +52,11 @@ module _ (t b e : List ℕ) (sound : sound_table t ≡ true) where
   unfolding at_tab
   at_tab_lem n i f other g = go (tab_of (view t) i) refl
     where
-      go : (p : Place) → tab_of (view t) i ≡ p → Happens t b e (at_tab t n p f)
-      go Nowhere q = nothing n other
-      go (At s k) q = g s k (tab_at_lem t s k sound (tab_of_lem (view t) i s k q).there) (found_id t i s k q)
+      go : (p : Option Place) → tab_of (view t) i ≡ p → Happens t b e (at_tab t n p f)
+      go None q = nothing n other
+      go (Some p) q =
+          g p.seat p.slot (tab_at_lem t p.seat p.slot sound (tab_of_lem (view t) i p.seat p.slot q).there)
+          (found_id t i p.seat p.slot q)
 
   from : {party tag i : ℕ} → Head e party tag → num e 1 4 ≡ i → From e party tag i
   from h q = record { head = h; id = q }
@@ -90,10 +89,10 @@ module _ (t b e : List ℕ) (sound : sound_table t ≡ true) where
 
   -- ---- a step
 
-  read_happens : (r : Reading) → reading_of e ≡ r → Happens t b e (read_rule t b e r)
+  read_happens : (r : Option Event) → reading_of e ≡ r → Happens t b e (read_rule t b e r)
   unfolding read_rule
-  read_happens Malformed h = nothing 3 (λ z. omega arith)
-  read_happens (Whole v) h = line_happens (read_line e v h)
+  read_happens None h = nothing 3 (λ z. omega arith)
+  read_happens (Some v) h = line_happens (read_line e v h)
 
 pub step_happens : (room : ℕ) (t b e : List ℕ) → sound_table t ≡ true → Happens t b e (step_of room t b e)
 unfolding step_of

@@ -1,6 +1,6 @@
 -- An event that is read is a line of the document's table of events: its head is whole, its party and tag are the line's, and
 -- its payload fits. Assumes nothing.
-use Rattle.std.specs.Prelude.{◌≡◌, Bool, true, ◌&&◌, List, ℕ, ◌+◌, ◌-◌, ◌≤◌, length, eqb, leb}
+use Rattle.std.specs.Prelude.{◌≡◌, Bool, true, ◌&&◌, List, ℕ, ◌+◌, ◌-◌, ◌≤◌, length, eqb, leb, Option, Some, None}
 use Rattle.std.proofs.Common.{subst, arith, leb-true, eqb-true}
 use Rattle.std.proofs.Math.ListN.{get_or}
 use Rattle.terms.specs.Laws.Bools.{and_left, and_right}
@@ -10,8 +10,6 @@ use Rattle.rules.specs.declared.event.Event.{Event}
 use Rattle.rules.specs.declared.event.Event.TheVariants.{Seat, Tab, Process, Network}
 use Rattle.rules.specs.declared.event.SeatMessage.TheVariants.{Key, Mouse, Open}
 use Rattle.rules.specs.declared.event.TabMessage.TheVariants.{Display, Socket, Url, Store, Retrieve}
-use Rattle.rules.specs.declared.event.Reading.{Reading}
-use Rattle.rules.specs.declared.event.Reading.TheVariants.{Whole, Malformed}
 use Rattle.rules.proofs.Laws.Cases.{either}
 
 -- ---- the head
@@ -55,13 +53,13 @@ pub data Line (e : List ℕ) : Event → Type 0 where
   document : Head e 4 1 → 14 ≤ length e → Line e (Network (num e 1 4) (delivered e))
 
 -- what a reading gives is a line
-abbrev Lined : List ℕ → Reading → Type 0
-Lined e (Whole v) = Line e v
-Lined e Malformed = Unit {0}
+abbrev Lined : List ℕ → Option Event → Type 0
+Lined e (Some v) = Line e v
+Lined e None = Unit {0}
 
 when_lined : (e : List ℕ) (fits : Bool) (v : Event) → (fits ≡ true → Line e v) → Lined e (when fits v)
 unfolding when
-when_lined e fits v f = either (Lined e) fits (Whole v) Malformed f (λ _. tt)
+when_lined e fits v f = either (Lined e) fits (Some v) None f (λ _. tt)
 
 module _ (e : List ℕ) (w : Sized e) where
   head : (p t : ℕ) → get_or e 0 0 ≡ p → eqb (get_or e 5 0) t ≡ true → Head e p t
@@ -119,5 +117,5 @@ read_lined : (e : List ℕ) → Lined e (reading_of e)
 unfolding reading_of
 read_lined e = either (Lined e) (sized e) _ _ (λ h. sent e (sized_facts e h)) (λ _. tt)
 
-pub read_line : (e : List ℕ) (v : Event) → reading_of e ≡ Whole v → Line e v
+pub read_line : (e : List ℕ) (v : Event) → reading_of e ≡ Some v → Line e v
 read_line e v h = subst (Lined e) h (read_lined e)

@@ -1,5 +1,5 @@
 -- What stands in memory for an event is the event: its party, id, tag, size and payload are its bytes. Assumes nothing.
-use Rattle.std.specs.Prelude.{◌≡◌, ℕ, zero, suc, ◌+◌, ◌-◌, ◌*◌, ◌/◌, ◌%◌, ◌≤◌, ◌<◌}
+use Rattle.std.specs.Prelude.{◌≡◌, ℕ, zero, suc, ◌+◌, ◌-◌, ◌*◌, ◌/◌, ◌%◌, ◌≤◌, ◌<◌, Some}
 use Rattle.std.proofs.Math.Path.{refl, sym, ap}
 use Rattle.std.proofs.Common.{◌∙◌, add-zero, take-append-drop, take-suc, take_all, drop-drop, get_or-drop}
 use mathlib.Core.List.{List, ◌++◌, append_assoc}
@@ -11,7 +11,6 @@ use Rattle.terms.specs.Laws.Num.{num_zero, num_suc}
 use Rattle.rules.specs.Rule.Frame.{be, framed, head, bytes}
 use Rattle.rules.specs.Rule.Event.{part, rest, field, delivered, seat_frame, tab_frame, event_frame, reading_of}
 use Rattle.rules.specs.declared.event.Event.{Event}
-use Rattle.rules.specs.declared.event.Reading.TheVariants.{Whole}
 use Rattle.rules.proofs.Laws.Line.{Head, Line, key, mouse, opening, display, socket, url, store, retrieve, result}
 use Rattle.rules.proofs.Laws.Line.{document, read_line}
 
@@ -98,5 +97,5 @@ module _ (e : List ℕ) (g : Bytes e) where
   line_frame (document h l) = frame_is 4 1 _ h (after_num 4 l)
 
   -- what stands in memory for e is e
-  pub read_frame : (v : Event) → reading_of e ≡ Whole v → bytes (event_frame e v) ≡ e
+  pub read_frame : (v : Event) → reading_of e ≡ Some v → bytes (event_frame e v) ≡ e
   read_frame v h = line_frame (read_line e v h)

@@ -1,5 +1,5 @@
 -- Every outcome of a step, and every outcome of a start, is orderly. Assumes nothing.
-use Rattle.std.specs.Prelude.{◌≡◌, true, not, cond, ◌≢◌, List, ℕ, ◌+◌, ◌≤◌, length, get_or, eqb, ltb}
+use Rattle.std.specs.Prelude.{◌≡◌, true, not, cond, ◌≢◌, List, ℕ, ◌+◌, ◌≤◌, length, get_or, eqb, ltb, Option, Some, None}
 use Rattle.std.proofs.Math.Path.{refl}
 use Rattle.std.proofs.Common.{arith}
 use Rattle.std.proofs.lemmas.Bool.{eqb-false}
@@ -7,15 +7,12 @@ use Rattle.fields.specs.Table.{tenant, view, sound_table, live, tab_of, process_
 use Rattle.terms.specs.Names.{num}
 use Rattle.fields.specs.Laws.Tab.{tab_of_lem}
 use Rattle.fields.specs.declared.place.Place.{Place}
-use Rattle.fields.specs.declared.place.Place.TheVariants.{Nowhere, At}
 use Rattle.rules.specs.Rule.Event.{part, rest, field, delivered, reading_of}
 use Rattle.rules.specs.Rule.Desk.{Desk, desk_at, Reply}
 use Rattle.rules.specs.Rule.Seat.{seat_rule}
 use Rattle.rules.specs.Rule.Tab.{tab_rule}
 use Rattle.rules.specs.Rule.Step.{refused, made, at_tab, event_rule, read_rule, room_needed, step_of}
 use Rattle.rules.specs.declared.event.Event.{Event}
-use Rattle.rules.specs.declared.event.Reading.{Reading}
-use Rattle.rules.specs.declared.event.Reading.TheVariants.{Whole, Malformed}
 use Rattle.rules.proofs.Laws.Cases.{either}
 use Rattle.rules.proofs.Laws.Frame.{length_part}
 use Rattle.rules.proofs.Laws.Line.{Sized, Line, key, mouse, opening, display, socket, url, store, retrieve, result}
@@ -62,9 +59,9 @@ module _ (t b e : List ℕ) where
   unfolding at_tab
   at_tab_lem n i f h g = go (tab_of (view t) i) refl
     where
-      go : (p : Place) → tab_of (view t) i ≡ p → Orderly t (at_tab t n p f)
-      go Nowhere q = no t n h
-      go (At s k) q = g s k (tab_of_lem (view t) i s k q).there
+      go : (p : Option Place) → tab_of (view t) i ≡ p → Orderly t (at_tab t n p f)
+      go None q = no t n h
+      go (Some p) q = g p.seat p.slot (tab_of_lem (view t) i p.seat p.slot q).there
 
   line_orderly : {v : Event} → Line e v → Orderly t (event_rule t b e v)
   unfolding event_rule seat_rule tab_rule
@@ -85,10 +82,10 @@ module _ (t b e : List ℕ) where
 
   -- ---- a step
 
-  read_orderly : (r : Reading) → reading_of e ≡ r → Orderly t (read_rule t b e r)
+  read_orderly : (r : Option Event) → reading_of e ≡ r → Orderly t (read_rule t b e r)
   unfolding read_rule
-  read_orderly Malformed h = no t 3 (omega arith)
-  read_orderly (Whole v) h = line_orderly (read_line e v h)
+  read_orderly None h = no t 3 (omega arith)
+  read_orderly (Some v) h = line_orderly (read_line e v h)
 
   pub step_orderly : (room : ℕ) → Orderly t (step_of room t b e)
   unfolding step_of

@@ -1,12 +1,11 @@
 -- What is read of an event lies in its bytes: a part that a line names is a part of the payload. Assumes nothing.
-use Rattle.std.specs.Prelude.{◌≡◌, List, ℕ, ◌+◌, ◌≤◌, length, get_or}
+use Rattle.std.specs.Prelude.{◌≡◌, List, ℕ, ◌+◌, ◌≤◌, length, get_or, Some}
 use Rattle.std.proofs.Common.{arith}
 use Rattle.terms.specs.Base.{Bytes}
 use Rattle.terms.specs.Laws.Num.{num_lt}
 use Rattle.rules.specs.Rule.Event.{rest, field, delivered, reading_of}
 use Rattle.rules.specs.Held.{PartIn, StoreIn, EventIn}
 use Rattle.rules.specs.declared.event.Event.{Event}
-use Rattle.rules.specs.declared.event.Reading.TheVariants.{Whole}
 use Rattle.rules.proofs.Laws.Line.{Sized, Line, key, mouse, opening, display, socket, url, store, retrieve, result}
 use Rattle.rules.proofs.Laws.Line.{document, read_line}
 
@@ -39,5 +38,5 @@ line_in e g (result h l) = rest_in e 4 h.sized l
 line_in e g (document h l) = rest_in e 4 h.sized l
 
 -- an event that is read lies in its bytes
-pub reading_in : (e : List ℕ) (v : Event) → Bytes e → reading_of e ≡ Whole v → EventIn e v
+pub reading_in : (e : List ℕ) (v : Event) → Bytes e → reading_of e ≡ Some v → EventIn e v
 reading_in e v g h = line_in e g (read_line e v h)

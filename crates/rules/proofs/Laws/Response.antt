@@ -1,6 +1,6 @@
 -- What a reply depends on: of two tables and books that agree in what an event's kind looks at, the rules give the same number and
 -- the same actions; and a table and a book agree with themselves. Assumes nothing.
-use Rattle.std.specs.Prelude.{◌≡◌, Bool, true, ◌&&◌, ℕ, ◌-◌}
+use Rattle.std.specs.Prelude.{◌≡◌, Bool, true, ◌&&◌, ℕ, ◌-◌, Option, Some, None}
 use Rattle.std.proofs.Math.Path.{refl, ap, ap₂}
 use Rattle.std.proofs.Common.{sym, ◌∙◌}
 use Rattle.std.proofs.Math.Bool.{not, not-not}
@@ -9,7 +9,6 @@ use Rattle.std.proofs.Math.Dec.{eqb}
 use borrow.Author.Tests.{eqb-true, eqb-false, not-false}
 use Rattle.fields.specs.Table.{tenant, view, tab_of, process_of}
 use Rattle.fields.specs.declared.place.Place.{Place}
-use Rattle.fields.specs.declared.place.Place.TheVariants.{Nowhere, At}
 use Rattle.rules.specs.Rule.Frame.{Frame}
 use Rattle.rules.specs.Rule.Event.{part, reading_of}
 use Rattle.rules.specs.Rule.Action.{stop_process}
@@ -28,8 +27,6 @@ use Rattle.rules.specs.declared.event.TabMessage.{TabMessage}
 use Rattle.rules.specs.declared.event.TabMessage.TheVariants.{Display, Socket, Url, Store, Retrieve}
 use Rattle.rules.specs.declared.event.Event.{Event}
 use Rattle.rules.specs.declared.event.Event.TheVariants.{Seat, Tab, Process, Network}
-use Rattle.rules.specs.declared.event.Reading.{Reading}
-use Rattle.rules.specs.declared.event.Reading.TheVariants.{Whole, Malformed}
 use Rattle.rules.proofs.Laws.Alike.{both, Replies, Outcomes, ask_alike, at_alike}
 
 -- ---- two desks
@@ -141,9 +138,9 @@ module _ (t₁ t₂ b₁ b₂ e : List ℕ) where
   unfolding read_rule refused
   read_same h = go (reading_of e) refl
     where
-      go : (r : Reading) → reading_of e ≡ r → Outcomes Equal (read_rule t₁ b₁ e r) (read_rule t₂ b₂ e r)
-      go Malformed q = (refl, refl)
-      go (Whole v) q = event_same v (h v q)
+      go : (r : Option Event) → reading_of e ≡ r → Outcomes Equal (read_rule t₁ b₁ e r) (read_rule t₂ b₂ e r)
+      go None q = (refl, refl)
+      go (Some v) q = event_same v (h v q)
 
 -- ---- one table
 
@@ -177,9 +174,9 @@ tab_self (Url u) d k = refl
 tab_self (Store n c) d k = (refl, refl)
 tab_self (Retrieve n) d k = (refl, refl, refl)
 
-both_self : (t : List ℕ) (R : Desk → ℕ → Desk → ℕ → Type 0) → ((d : Desk) (k : ℕ) → R d k d k) → (p : Place) → Both t t R p p
-both_self t R f Nowhere = tt
-both_self t R f (At s k) = f (desk_at t s) k
+both_self : (t : List ℕ) (R : Desk → ℕ → Desk → ℕ → Type 0) → ((d : Desk) (k : ℕ) → R d k d k) → (p : Option Place) → Both t t R p p
+both_self t R f None = tt
+both_self t R f (Some p) = f (desk_at t p.seat) p.slot
 
 self_for : (t b e : List ℕ) (v : Event) → SameFor t t b b e v
 self_for t b e (Seat s m) = (refl, λ _. seat_self (desk_at t s) b e m)

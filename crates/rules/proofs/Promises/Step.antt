@@ -1,7 +1,7 @@
 -- What is promised of one call, each promise with a sentence above it; the proofs are a line into Laws. A step is
 -- `step_of room table book event`, and what the contract of `step` says of it is `Stepped`; a start is `start_of table book`, and
 -- what the contract of `start` says of it is `Started`. Assumes nothing.
-use Rattle.std.specs.Prelude.{ℕ, ◌+◌, ◌≤◌, ◌<◌, ◌≡◌, true, ◌≢◌, ◌⊎◌, List, [], length, take, drop}
+use Rattle.std.specs.Prelude.{ℕ, ◌+◌, ◌≤◌, ◌<◌, ◌≡◌, true, ◌≢◌, ◌⊎◌, List, [], length, take, drop, Some}
 use Rattle.std.proofs.Common.{◌∙◌, arith}
 use Rattle.terms.specs.Base.{Range, Bytes}
 use Rattle.fields.specs.Table.{sound_table}
@@ -9,7 +9,6 @@ use Rattle.rules.specs.Sheet.{Frame, bytes, frames, frames_of, event_frame, read
 use Rattle.rules.specs.Sheet.{Started, number_in, actions_in, bytes_in, FitsTag, ReadAs, AllNarrow}
 use Rattle.rules.specs.Sheet.{Desk, cookie_domain, store_rule}
 use Rattle.rules.specs.declared.event.Event.{Event}
-use Rattle.rules.specs.declared.event.Reading.TheVariants.{Whole}
 use Rattle.rules.proofs.Laws.Memory as memory
 use Rattle.rules.proofs.Laws.Fits as fit
 use Rattle.rules.proofs.Laws.Tab.{store_largest}
@@ -171,11 +170,11 @@ start_sound t b h = (start_starts t b).sound h
 -- ---- what is read
 
 -- What stands in memory for an event is the event: its party, id, tag, size and payload are its bytes.
-pub read_frame : (e : List ℕ) (v : Event) → Bytes e → reading_of e ≡ Whole v → bytes (event_frame e v) ≡ e
+pub read_frame : (e : List ℕ) (v : Event) → Bytes e → reading_of e ≡ Some v → bytes (event_frame e v) ≡ e
 read_frame e v g h = memory.read_frame e g v h
 
 -- It fits its tag, as the document's table of events has it;
-pub read_fits : (e : List ℕ) (v : Event) → Bytes e → reading_of e ≡ Whole v → FitsTag (event_frame e v)
+pub read_fits : (e : List ℕ) (v : Event) → Bytes e → reading_of e ≡ Some v → FitsTag (event_frame e v)
 read_fits e v g h = fit.read_fits e v g h
 
 -- and the bytes of every frame that does, with an id that four bytes hold and at most 4,096 bytes of payload, are read as just

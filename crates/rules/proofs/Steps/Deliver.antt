@@ -1,5 +1,5 @@
 -- What src/deliver.rt leaves at each of its exits. Assumes nothing.
-use Rattle.std.specs.Prelude.{ℕ, ◌≡◌, Bool, true, false, ◌&&◌, ◌≢◌, List, [], ◌∷◌, eqb}
+use Rattle.std.specs.Prelude.{ℕ, ◌≡◌, Bool, true, false, ◌&&◌, ◌≢◌, List, [], ◌∷◌, eqb, Result, Err}
 use Rattle.std.proofs.Math.Path.{refl}
 use Rattle.std.proofs.Common.{sym, ◌∙◌, eq-eqb, ne_eqb}
 use Rattle.terms.specs.Laws.Bools.{and_right}
@@ -12,7 +12,9 @@ use Rattle.rules.specs.Rule.Tab.{result_rule, document_rule}
 use Rattle.rules.specs.Held.{Sent, Says, Replied}
 use Rattle.rules.proofs.Steps.Decide.{replied_refused, replied_done}
 use Rattle.rules.proofs.Steps.Tab.{sent_id}
-use Rattle.rules.specs.declared.verdict.Verdict.{Verdict}
+use Rattle.rules.specs.declared.verdict.Done.{Done}
+use Rattle.rules.specs.declared.verdict.Refusal.{Refusal}
+use Rattle.rules.specs.declared.verdict.Refusal.TheVariants.{NotAwaited}
 
 module _ (t : List ℕ) (s k : ℕ) where
   -- ---- result
@@ -32,13 +34,13 @@ module _ (t : List ℕ) (s k : ℕ) where
     unfolding desk
     asked_waits e h = and_right (eqb ((desk_at t s).process k) n) (waits (view t) s k Cookie) (sym e ∙ h)
 
-    pub result_refused : {o : List ℕ} {r : Bool} {g : Verdict} (x : List ℕ)
-        → r ≡ eqb ((desk_at t s).process k) n && (desk_at t s).waits k Cookie → r ≡ false → Says 10 0 0 g
-        → Replied t s (result_rule (desk_at t s) n k x) o t o g
+    pub result_refused : {o : List ℕ} {r : Bool} (x : List ℕ)
+        → r ≡ eqb ((desk_at t s).process k) n && (desk_at t s).waits k Cookie → r ≡ false
+        → Replied t s (result_rule (desk_at t s) n k x) o t o (Err NotAwaited)
     unfolding result_rule
-    result_refused x e h = replied_refused (rw (sym e ∙ h))
+    result_refused x e h = replied_refused NotAwaited (rw (sym e ∙ h))
 
-    pub result_passed : {o t' o' : List ℕ} {r : Bool} {g : Verdict} (x : List ℕ)
+    pub result_passed : {o t' o' : List ℕ} {r : Bool} {g : Result Done Refusal} (x : List ℕ)
         → r ≡ eqb ((desk_at t s).process k) n && (desk_at t s).waits k Cookie → r ≡ true
         → Replied t s (reply (framed 2 ((desk_at t s).id k) 7 x ∷ []) (clear_mark k Cookie)) o t' o' g
         → Replied t s (result_rule (desk_at t s) n k x) o t' o' g
@@ -47,12 +49,12 @@ module _ (t : List ℕ) (s k : ℕ) where
 
   -- ---- document
 
-  pub document_refused : {o : List ℕ} {r : Bool} {g : Verdict} (x : List ℕ) → r ≡ waits (view t) s k Document → r ≡ false
-      → Says 10 0 0 g → Replied t s (document_rule (desk_at t s) k x) o t o g
+  pub document_refused : {o : List ℕ} {r : Bool} (x : List ℕ) → r ≡ waits (view t) s k Document → r ≡ false
+      → Replied t s (document_rule (desk_at t s) k x) o t o (Err NotAwaited)
   unfolding document_rule desk
-  document_refused x e h = replied_refused (rw (sym e ∙ h))
+  document_refused x e h = replied_refused NotAwaited (rw (sym e ∙ h))
 
-  pub document_passed : {o t' o' : List ℕ} {r : Bool} {g : Verdict} (x : List ℕ) → r ≡ waits (view t) s k Document → r ≡ true
+  pub document_passed : {o t' o' : List ℕ} {r : Bool} {g : Result Done Refusal} (x : List ℕ) → r ≡ waits (view t) s k Document → r ≡ true
       → Replied t s (reply (framed 2 ((desk_at t s).id k) 6 x ∷ []) (clear_mark k Document)) o t' o' g
       → Replied t s (document_rule (desk_at t s) k x) o t' o' g
   unfolding document_rule desk
@@ -60,7 +62,7 @@ module _ (t : List ℕ) (s k : ℕ) where
 
   -- ---- what is passed on
 
-  pub passed : {o t' o' : List ℕ} {i tag n : ℕ} {g : Verdict} (m : Mark) (x : List ℕ) → i ≡ (desk_at t s).id k
+  pub passed : {o t' o' : List ℕ} {i tag n : ℕ} {g : Result Done Refusal} (m : Mark) (x : List ℕ) → i ≡ (desk_at t s).id k
       → Sent o 0 (framed 2 i tag x ∷ []) o' n → t' ≡ unmarked t s k m → Says 0 1 n g
       → Replied t s (reply (framed 2 ((desk_at t s).id k) tag x ∷ []) (clear_mark k m)) o t' o' g
   unfolding changed

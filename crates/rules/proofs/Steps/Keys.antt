@@ -1,5 +1,5 @@
 -- What src/keys.rt sends and leaves at each of its exits. Assumes nothing.
-use Rattle.std.specs.Prelude.{ℕ, ◌-◌, ◌%◌, ◌<◌, ◌≡◌, Bool, true, false, cond, ◌≢◌, List, [], ◌∷◌, ◌++◌, length}
+use Rattle.std.specs.Prelude.{ℕ, ◌-◌, ◌%◌, ◌<◌, ◌≡◌, Bool, true, false, cond, ◌≢◌, List, [], ◌∷◌, ◌++◌, length, Result, Err}
 use Rattle.std.proofs.Math.Path.{refl, sym, ap}
 use Rattle.std.proofs.Common.{subst, ◌∙◌}
 use native.Mathlib.Omega.{arith}
@@ -15,7 +15,9 @@ use Rattle.rules.specs.Rule.Seat.{only, select_rule, close_actions, close_rule, 
 use Rattle.rules.specs.Held.{Sent, Says, Replied, ReadyTab, bar_of}
 use Rattle.rules.proofs.Laws.Sent.{sent_then, sent_payload, size_only}
 use Rattle.rules.proofs.Steps.Decide.{replied_refused, replied_idle, replied_done}
-use Rattle.rules.specs.declared.verdict.Verdict.{Verdict}
+use Rattle.rules.specs.declared.verdict.Done.{Done}
+use Rattle.rules.specs.declared.verdict.Refusal.{Refusal}
+use Rattle.rules.specs.declared.verdict.Refusal.TheVariants.{BadKey}
 
 -- ---- the bar
 
@@ -46,12 +48,12 @@ selected_sent {t} {o} {o₁} {o₂} {s} {k} {i} {a} {r} w f g e =
     (sent_then (omega arith) f (sent_payload (bar_of d k) (d.suffix k) (sym (bar_slot d k (λ z. omega arith))) g))
 
 module _ {t : List ℕ} {s : ℕ} where
-  pub select_none : {o : List ℕ} {g : Verdict} (k : ℕ) → live (view t) s k ≡ false → Says 0 0 0 g
+  pub select_none : {o : List ℕ} {g : Result Done Refusal} (k : ℕ) → live (view t) s k ≡ false → Says 0 0 0 g
       → Replied t s (select_rule (desk_at t s) k) o t o g
   unfolding select_rule desk
   select_none k e = replied_idle (rw e)
 
-  pub select_done : {o t' o' : List ℕ} {n : ℕ} {g : Verdict} (k : ℕ) → live (view t) s k ≡ true
+  pub select_done : {o t' o' : List ℕ} {n : ℕ} {g : Result Done Refusal} (k : ℕ) → live (view t) s k ≡ true
       → Sent o 0 (render ((desk_at t s).id k) ∷ bar s ((desk_at t s).suffix k) ∷ []) o' n → t' ≡ picked t s k → Says 0 2 n g
       → Replied t s (select_rule (desk_at t s) k) o t' o' g
   unfolding select_rule desk changed
@@ -89,12 +91,12 @@ count_closed d k true e = rw e
 count_closed d k false e = rw e
 
 module _ {t : List ℕ} {s : ℕ} where
-  pub close_none : {o : List ℕ} {k : ℕ} {g : Verdict} → k ≡ view t (selected s) → k ≡ 0 → Says 0 0 0 g
+  pub close_none : {o : List ℕ} {k : ℕ} {g : Result Done Refusal} → k ≡ view t (selected s) → k ≡ 0 → Says 0 0 0 g
       → Replied t s (close_rule (desk_at t s)) o t o g
   unfolding close_rule desk
   close_none e z = replied_idle (rw (eq-eqb (view t (selected s)) 0 (sym e ∙ z)))
 
-  pub close_done : {o t' o' : List ℕ} {k n m : ℕ} {g : Verdict} (b : Bool) → k ≡ view t (selected s) → k ≢ 0
+  pub close_done : {o t' o' : List ℕ} {k n m : ℕ} {g : Result Done Refusal} (b : Bool) → k ≡ view t (selected s) → k ≢ 0
       → b ≡ (desk_at t s).last_tab k → Sent o 0 (close_actions (desk_at t s) k) o' n → t' ≡ closed t s
       → Says 0 m n g → m ≡ cond b 3 2 → Replied t s (close_rule (desk_at t s)) o t' o' g
   unfolding changed
@@ -105,12 +107,12 @@ module _ {t : List ℕ} {s : ℕ} where
 -- ---- what goes to the selected tab
 
 module _ {t : List ℕ} {s : ℕ} (tag : ℕ) (x : List ℕ) where
-  pub pass_none : {o : List ℕ} {k : ℕ} {g : Verdict} → k ≡ view t (selected s) → k ≡ 0 → Says 0 0 0 g
+  pub pass_none : {o : List ℕ} {k : ℕ} {g : Result Done Refusal} → k ≡ view t (selected s) → k ≡ 0 → Says 0 0 0 g
       → Replied t s (pass_rule (desk_at t s) (λ (i : ℕ). framed 2 i tag x)) o t o g
   unfolding pass_rule desk
   pass_none e z = replied_idle (rw (eq-eqb (view t (selected s)) 0 (sym e ∙ z)))
 
-  pub pass_done : {o o' : List ℕ} {k i n : ℕ} {g : Verdict} → k ≡ view t (selected s) → k ≢ 0 → i ≡ (desk_at t s).id k
+  pub pass_done : {o o' : List ℕ} {k i n : ℕ} {g : Result Done Refusal} → k ≡ view t (selected s) → k ≢ 0 → i ≡ (desk_at t s).id k
       → Sent o 0 (framed 2 i tag x ∷ []) o' n → Says 0 1 n g
       → Replied t s (pass_rule (desk_at t s) (λ (i : ℕ). framed 2 i tag x)) o t o' g
   unfolding pass_rule desk changed
@@ -142,12 +144,12 @@ pub plain_seen : (k : ℕ) → within 8 10 k ≡ false → k ≢ 13 → within 3
 unfolding plain
 plain_seen k e h = rw (e, ne_eqb k 13 h)
 
-pub key_bad : {t o : List ℕ} {s : ℕ} {g : Verdict} (k : ℕ) → within 14 23 k ≡ false → k ≢ 25 → plain k ≡ false → Says 5 0 0 g
-    → Replied t s (key_rule (desk_at t s) k) o t o g
+pub key_bad : {t o : List ℕ} {s : ℕ} (k : ℕ) → within 14 23 k ≡ false → k ≢ 25 → plain k ≡ false
+    → Replied t s (key_rule (desk_at t s) k) o t o (Err BadKey)
 unfolding key_rule
-key_bad k h e p y = replied_refused (rw (h, ne_eqb k 25 e, p)) y
+key_bad k h e p = replied_refused BadKey (rw (h, ne_eqb k 25 e, p))
 
-module _ {t o t' o' : List ℕ} {s : ℕ} {g : Verdict} (k : ℕ) where
+module _ {t o t' o' : List ℕ} {s : ℕ} {g : Result Done Refusal} (k : ℕ) where
   pub key_select : {w : ℕ} → w ≡ k → within 14 23 k ≡ true → Replied t s (select_rule (desk_at t s) (w - 13)) o t' o' g
       → Replied t s (key_rule (desk_at t s) k) o t' o' g
   unfolding key_rule

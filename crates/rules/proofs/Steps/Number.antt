@@ -1,7 +1,7 @@
 -- Which number an open has, as src/open.rt finds it: the suffix, the book, the slots and the opens. Assumes nothing.
 use Rattle.std.specs.Prelude.{ℕ, zero, suc, ◌≡◌, Bool, ◌≢◌, ◌⊎◌, drop, eqb}
 use Rattle.std.proofs.Math.Path.{refl, sym, ap, subst}
-use Rattle.std.proofs.Common.{◌∙◌, inl, inr, arith, length-drop}
+use Rattle.std.proofs.Common.{◌∙◌, inl, inr, ⊎_elim, arith, length-drop}
 use Rattle.std.proofs.Math.Bool.{true, false, not, cond}
 use Rattle.std.proofs.lemmas.Bool.{false≢true}
 use mathlib.Core.List.{List, [], ◌∷◌}
@@ -15,7 +15,25 @@ use Rattle.terms.specs.Laws.Answer.{suffix_from, suffix_number, suffix_six}
 use Rattle.fields.specs.Table.{view, opens, most_opens, live_tabs}
 use Rattle.rules.specs.Rule.Desk.{desk, desk_at}
 use Rattle.rules.specs.Rule.Seat.{acceptable}
+use Rattle.rules.specs.Rule.Refusal.{number_of}
 use Rattle.rules.specs.Held.{book_number, open_number}
+use Rattle.rules.specs.declared.verdict.Refusal.{Refusal}
+use Rattle.rules.specs.declared.verdict.Refusal.TheVariants.{ShortRoom, UnsoundTable, Malformed, NotLive, BadKey}
+use Rattle.rules.specs.declared.verdict.Refusal.TheVariants.{UnsoundBook, UnfitSuffix, TooManyTabs, Spent, NotAwaited}
+
+-- ---- a refusal has a number
+
+pub refusal_numbered : (why : Refusal) → number_of why ≢ 0
+refusal_numbered ShortRoom e = omega (arith, e)
+refusal_numbered UnsoundTable e = omega (arith, e)
+refusal_numbered Malformed e = omega (arith, e)
+refusal_numbered NotLive e = omega (arith, e)
+refusal_numbered BadKey e = omega (arith, e)
+refusal_numbered UnsoundBook e = omega (arith, e)
+refusal_numbered UnfitSuffix e = omega (arith, e)
+refusal_numbered TooManyTabs e = omega (arith, e)
+refusal_numbered Spent e = omega (arith, e)
+refusal_numbered NotAwaited e = omega (arith, e)
 
 -- ---- the suffix
 
@@ -66,6 +84,14 @@ module _ (b x : List ℕ) where
       by (inr (inl z)) s q = six s q z
       by (inr (inr z)) s q = seven s q z
 
+  pub book_six : {why : ℕ} → why ≡ (suffix_of x b).why → why ≡ 6 → 6 ≡ book_number b x
+  book_six e z = sym z ∙ book_refuses e (λ y. omega (arith, y, z))
+
+  pub book_seven : {why : ℕ} → why ≡ (suffix_of x b).why → why ≢ 6 → why ≢ 0 → 7 ≡ book_number b x
+  book_seven {why} e h k =
+      ⊎_elim (λ z. absurd (k (e ∙ z)))
+      (λ f. ⊎_elim (λ z. absurd (h (e ∙ z))) (λ z. sym (e ∙ z) ∙ book_refuses e k) f) (suffix_number x b)
+
   -- a question that is answered 0 was asked of a sound book
   answered_sound : (suffix_of x b).why ≡ 0 → sound_book b ≡ true
   answered_sound z =
@@ -84,23 +110,23 @@ module _ (b x : List ℕ) where
       rw (answered_sound (sym e ∙ z), sym (accept_whole e f z) ∙ eq-eqb (length part) (length x) h)
 
   module _ (t : List ℕ) (s : ℕ) where
-    pub number_book : {n : ℕ} → n ≡ book_number b x → n ≢ 0 → n ≡ open_number (desk_at t s) b x
+    pub number_book : (why : Refusal) → number_of why ≡ book_number b x → number_of why ≡ open_number (desk_at t s) b x
     unfolding open_number
-    number_book e h = e ∙ rw (ne_eqb (book_number b x) 0 (λ z. h (e ∙ z)))
+    number_book why e = e ∙ rw (ne_eqb (book_number b x) 0 (λ z. refusal_numbered why (e ∙ z)))
 
-    pub number_full : {n l : ℕ} → n ≡ book_number b x → n ≡ 0 → l ≡ live_tabs (view t) s → l ≡ 10
+    pub number_full : {l : ℕ} → 0 ≡ book_number b x → l ≡ live_tabs (view t) s → l ≡ 10
         → 8 ≡ open_number (desk_at t s) b x
     unfolding open_number desk
-    number_full e z f h = rw (eq-eqb (book_number b x) 0 (sym e ∙ z), eq-eqb (live_tabs (view t) s) 10 (sym f ∙ h))
+    number_full e f h = rw (eq-eqb (book_number b x) 0 (sym e), eq-eqb (live_tabs (view t) s) 10 (sym f ∙ h))
 
-    pub number_spent : {n l : ℕ} {r : Bool} → n ≡ book_number b x → n ≡ 0 → l ≡ live_tabs (view t) s → l ≢ 10
+    pub number_spent : {l : ℕ} {r : Bool} → 0 ≡ book_number b x → l ≡ live_tabs (view t) s → l ≢ 10
         → r ≡ eqb (view t (opens s)) most_opens → r ≡ true → 9 ≡ open_number (desk_at t s) b x
     unfolding open_number desk
-    number_spent e z f h g y =
-        rw (eq-eqb (book_number b x) 0 (sym e ∙ z), ne_eqb (live_tabs (view t) s) 10 (λ w. h (f ∙ w)), sym g ∙ y)
+    number_spent e f h g y =
+        rw (eq-eqb (book_number b x) 0 (sym e), ne_eqb (live_tabs (view t) s) 10 (λ w. h (f ∙ w)), sym g ∙ y)
 
-    pub number_none : {n l : ℕ} {r : Bool} → n ≡ book_number b x → n ≡ 0 → l ≡ live_tabs (view t) s → l ≢ 10
+    pub number_none : {l : ℕ} {r : Bool} → 0 ≡ book_number b x → l ≡ live_tabs (view t) s → l ≢ 10
         → r ≡ eqb (view t (opens s)) most_opens → r ≡ false → 0 ≡ open_number (desk_at t s) b x
     unfolding open_number desk
-    number_none e z f h g y =
-        rw (eq-eqb (book_number b x) 0 (sym e ∙ z), ne_eqb (live_tabs (view t) s) 10 (λ w. h (f ∙ w)), sym g ∙ y)
+    number_none e f h g y =
+        rw (eq-eqb (book_number b x) 0 (sym e), ne_eqb (live_tabs (view t) s) 10 (λ w. h (f ∙ w)), sym g ∙ y)

@@ -1,5 +1,5 @@
 -- What an open sends and leaves at each exit of src/open.rt. Assumes nothing.
-use Rattle.std.specs.Prelude.{ℕ, ◌+◌, ◌%◌, ◌≤◌, ◌<◌, ◌≡◌, Bool, true, false, not, cond, ◌≢◌, length, eqb}
+use Rattle.std.specs.Prelude.{ℕ, ◌+◌, ◌%◌, ◌≤◌, ◌<◌, ◌≡◌, Bool, true, false, not, cond, ◌≢◌, length, eqb, Result, Err}
 use Rattle.std.proofs.Math.Path.{refl, sym, ap, ap₂, subst}
 use Rattle.std.proofs.Common.{◌∙◌, arith}
 use mathlib.Core.List.{List, [], ◌∷◌, ◌++◌}
@@ -10,11 +10,14 @@ use Rattle.rules.specs.Rule.Frame.{be, Frame, framed}
 use Rattle.rules.specs.Rule.Action.{start_process, start_tab, go, bar}
 use Rattle.rules.specs.Rule.Desk.{Desk, desk, desk_at, Reply, reply, refuse, open_tab, changed, new_id}
 use Rattle.rules.specs.Rule.Seat.{only, acceptable, open_actions, open_rule}
+use Rattle.rules.specs.Rule.Refusal.{number_of}
 use Rattle.rules.specs.Held.{Sent, Says, Replied, Taking, Found, book_number, open_number}
 use Rattle.rules.proofs.Laws.Open.{accepted}
 use Rattle.rules.proofs.Laws.Sent.{sent_then, sent_payload, size_only}
 use Rattle.rules.proofs.Steps.Decide.{replied_refused, replied_done}
-use Rattle.rules.specs.declared.verdict.Verdict.{Verdict}
+use Rattle.rules.proofs.Steps.Number.{refusal_numbered}
+use Rattle.rules.specs.declared.verdict.Done.{Done}
+use Rattle.rules.specs.declared.verdict.Refusal.{Refusal}
 
 -- ---- the rule by its number
 
@@ -103,7 +106,7 @@ module _ (t : List ℕ) (s : ℕ) (x : List ℕ) where
 
   -- ---- the exits
 
-  pub take_done : {o t' o' : List ℕ} {n p m owner : ℕ} {g : Verdict} (c : Bool) → Found t s x owner p → eqb p 0 ≡ c
+  pub take_done : {o t' o' : List ℕ} {n p m owner : ℕ} {g : Result Done Refusal} (c : Bool) → Found t s x owner p → eqb p 0 ≡ c
       → Sent o 0 (open_actions (desk_at t s) (new_id (view t) s) x) o' n → t' ≡ opened t s x → Says 0 m n g → m ≡ cond c 4 3
       → Replied t s (reply (open_actions (desk_at t s) (new_id (view t) s) x) (open_tab x)) o t' o' g
   unfolding changed
@@ -112,12 +115,13 @@ module _ (t : List ℕ) (s : ℕ) (x : List ℕ) where
       (subst (λ (i : ℕ). Says 0 i n g)
       (j ∙ sym (count_open (desk_at t s) (new_id (view t) s) x c (is_new t s x (found_row t s x u) ec))) y)
 
-  pub open_refused : {o : List ℕ} {n : ℕ} {g : Verdict} (b : List ℕ) → n ≡ open_number (desk_at t s) b x → n ≢ 0 → Says n 0 0 g
-      → Replied t s (open_rule (desk_at t s) b x) o t o g
-  open_refused {n = n} b e h y = replied_refused (open_number_lem (desk_at t s) b x n e h) y
+  pub open_refused : {o : List ℕ} (b : List ℕ) (why : Refusal) → number_of why ≡ open_number (desk_at t s) b x
+      → Replied t s (open_rule (desk_at t s) b x) o t o (Err why)
+  open_refused b why e =
+      replied_refused why (open_number_lem (desk_at t s) b x (number_of why) e (refusal_numbered why))
 
-  pub open_done : {o t' o' : List ℕ} {n : ℕ} {g : Verdict} (b : List ℕ) → n ≡ open_number (desk_at t s) b x → n ≡ 0
+  pub open_done : {o t' o' : List ℕ} {g : Result Done Refusal} (b : List ℕ) → 0 ≡ open_number (desk_at t s) b x
       → Replied t s (reply (open_actions (desk_at t s) (new_id (view t) s) x) (open_tab x)) o t' o' g
       → Replied t s (open_rule (desk_at t s) b x) o t' o' g
-  open_done {o} {t'} {o'} {n} {g} b e z w =
-      subst (λ (r : Reply). Replied t s r o t' o' g) (sym (open_takes t s b x (sym e ∙ z))) w
+  open_done {o} {t'} {o'} {g} b e w =
+      subst (λ (r : Reply). Replied t s r o t' o' g) (sym (open_takes t s b x (sym e))) w

@@ -1,5 +1,5 @@
 -- What src/tab.rt and src/deliver.rt leave at each of their exits. Assumes nothing.
-use Rattle.std.specs.Prelude.{ℕ, ◌%◌, ◌≤◌, ◌<◌, ◌≡◌, Bool, true, false, ◌&&◌, ◌≢◌}
+use Rattle.std.specs.Prelude.{ℕ, ◌%◌, ◌≤◌, ◌<◌, ◌≡◌, Bool, true, false, ◌&&◌, ◌≢◌, Result}
 use Rattle.std.proofs.Math.Path.{refl, sym, ap}
 use Rattle.std.proofs.Common.{subst, ◌∙◌}
 use Rattle.std.proofs.Math.Bool.{not}
@@ -20,7 +20,8 @@ use Rattle.rules.specs.Held.{Sent, Says, Replied}
 use Rattle.rules.proofs.Laws.Sent.{sent_payload}
 use Rattle.rules.proofs.Laws.Tab.{domain_length}
 use Rattle.rules.proofs.Steps.Decide.{replied_idle, replied_done}
-use Rattle.rules.specs.declared.verdict.Verdict.{Verdict}
+use Rattle.rules.specs.declared.verdict.Done.{Done}
+use Rattle.rules.specs.declared.verdict.Refusal.{Refusal}
 
 -- a frame to another id is the frame to that id
 pub sent_id : {o o' : List ℕ} {p i j t r : ℕ} {x : List ℕ} → i ≡ j → Sent o 0 (framed p i t x ∷ []) o' r
@@ -30,19 +31,19 @@ sent_id {o} {o'} {p} {i} {j} {t} {r} {x} e w = subst (λ (k : ℕ). Sent o 0 (fr
 module _ (t : List ℕ) (s k : ℕ) where
   -- ---- denied
 
-  pub deny_done : {o o' : List ℕ} {i n : ℕ} {g : Verdict} → Sent o 0 (framed 2 i 5 [] ∷ []) o' n → i ≡ (desk_at t s).id k
+  pub deny_done : {o o' : List ℕ} {i n : ℕ} {g : Result Done Refusal} → Sent o 0 (framed 2 i 5 [] ∷ []) o' n → i ≡ (desk_at t s).id k
       → Says 0 1 n g → Replied t s (reply (error ((desk_at t s).id k) ∷ []) stay) o t o' g
   unfolding changed
   deny_done w e = replied_done stay refl (sent_id e w) refl
 
   -- ---- display
 
-  pub display_none : {o : List ℕ} {j : ℕ} {g : Verdict} (x : List ℕ) → j ≡ view t (selected s) → j ≢ k → Says 0 0 0 g
+  pub display_none : {o : List ℕ} {j : ℕ} {g : Result Done Refusal} (x : List ℕ) → j ≡ view t (selected s) → j ≢ k → Says 0 0 0 g
       → Replied t s (display_rule (desk_at t s) k x) o t o g
   unfolding display_rule desk
   display_none x e h = replied_idle (rw (ne_eqb (view t (selected s)) k (λ z. h (e ∙ z))))
 
-  pub display_done : {o o' : List ℕ} {j n : ℕ} {g : Verdict} (x : List ℕ) → j ≡ view t (selected s) → j ≡ k
+  pub display_done : {o o' : List ℕ} {j n : ℕ} {g : Result Done Refusal} (x : List ℕ) → j ≡ view t (selected s) → j ≡ k
       → Sent o 0 (framed 1 s 2 x ∷ []) o' n → Says 0 1 n g → Replied t s (display_rule (desk_at t s) k x) o t o' g
   unfolding display_rule desk changed
   display_done x e h w = replied_done stay (rw (eq-eqb (view t (selected s)) k (sym e ∙ h))) w refl
@@ -50,13 +51,13 @@ module _ (t : List ℕ) (s k : ℕ) where
   -- ---- socket
 
   module _ (port : ℕ) (host : List ℕ) where
-    pub socket_denied : {o o' x : List ℕ} {r : Bool} {g : Verdict} → r ≡ socket_allowed port host x → x ≡ (desk_at t s).suffix k
+    pub socket_denied : {o o' x : List ℕ} {r : Bool} {g : Result Done Refusal} → r ≡ socket_allowed port host x → x ≡ (desk_at t s).suffix k
         → r ≡ false → Replied t s (reply (error ((desk_at t s).id k) ∷ []) stay) o t o' g
         → Replied t s (socket_rule (desk_at t s) k port host) o t o' g
     unfolding socket_rule ask
     socket_denied e x h w = rw (ap (socket_allowed port host) (sym x) ∙ sym e ∙ h) w
 
-    pub socket_done : {o o' x lead : List ℕ} {r : Bool} {i n : ℕ} {g : Verdict} → r ≡ socket_allowed port host x
+    pub socket_done : {o o' x lead : List ℕ} {r : Bool} {i n : ℕ} {g : Result Done Refusal} → r ≡ socket_allowed port host x
         → x ≡ (desk_at t s).suffix k → r ≡ true → lead ≡ be 2 port → i ≡ (desk_at t s).id k
         → Sent o 0 (framed 5 i 5 (lead ++ folded host) ∷ []) o' n → Says 0 1 n g
         → Replied t s (socket_rule (desk_at t s) k port host) o t o' g
@@ -80,14 +81,14 @@ module _ (t : List ℕ) (s k : ℕ) where
   unfolding desk
   fetch_quiet u e h = not-true (waits (view t) s k Document) (and_right (is_url u) (not (waits (view t) s k Document)) (sym e ∙ h))
 
-  pub url_denied : {o o' : List ℕ} {r : Bool} {g : Verdict} (u : List ℕ)
+  pub url_denied : {o o' : List ℕ} {r : Bool} {g : Result Done Refusal} (u : List ℕ)
       → r ≡ is_url u && not ((desk_at t s).waits k Document) → r ≡ false
       → Replied t s (reply (error ((desk_at t s).id k) ∷ []) stay) o t o' g
       → Replied t s (url_rule (desk_at t s) k u) o t o' g
   unfolding url_rule ask
   url_denied u e h w = rw (sym e ∙ h) w
 
-  pub url_done : {o t' o' : List ℕ} {r : Bool} {i n : ℕ} {g : Verdict} (u : List ℕ)
+  pub url_done : {o t' o' : List ℕ} {r : Bool} {i n : ℕ} {g : Result Done Refusal} (u : List ℕ)
       → r ≡ is_url u && not ((desk_at t s).waits k Document) → r ≡ true → i ≡ (desk_at t s).id k
       → Sent o 0 (framed 4 i 1 u ∷ []) o' n → t' ≡ marked t s k Document → Says 0 1 n g
       → Replied t s (url_rule (desk_at t s) k u) o t' o' g
@@ -97,13 +98,13 @@ module _ (t : List ℕ) (s k : ℕ) where
   -- ---- store
 
   module _ (domain cookie : List ℕ) where
-    pub store_denied : {o o' x : List ℕ} {r : Bool} {g : Verdict} → r ≡ cookie_domain domain x → x ≡ (desk_at t s).suffix k
+    pub store_denied : {o o' x : List ℕ} {r : Bool} {g : Result Done Refusal} → r ≡ cookie_domain domain x → x ≡ (desk_at t s).suffix k
         → r ≡ false → Replied t s (reply (error ((desk_at t s).id k) ∷ []) stay) o t o' g
         → Replied t s (store_rule (desk_at t s) k domain cookie) o t o' g
     unfolding store_rule ask
     store_denied e x h w = rw (ap (cookie_domain domain) (sym x) ∙ sym e ∙ h) w
 
-    pub store_done : {o o' x : List ℕ} {r : Bool} {p n : ℕ} {g : Verdict} → r ≡ cookie_domain domain x
+    pub store_done : {o o' x : List ℕ} {r : Bool} {p n : ℕ} {g : Result Done Refusal} → r ≡ cookie_domain domain x
         → x ≡ (desk_at t s).suffix k → r ≡ true → length domain < 256 → p ≡ (desk_at t s).process k
         → Sent o 0 (framed 3 p 1 ((length domain ∷ []) ++ (folded domain ++ cookie)) ∷ []) o' n → Says 0 1 n g
         → Replied t s (store_rule (desk_at t s) k domain cookie) o t o' g
@@ -139,14 +140,14 @@ module _ (t : List ℕ) (s k : ℕ) where
         not-true (waits (view t) s k Cookie)
         (and_right (cookie_domain domain ((desk_at t s).suffix k)) (not (waits (view t) s k Cookie)) (sym e ∙ h))
 
-    pub retrieve_denied : {o o' : List ℕ} {r : Bool} {g : Verdict}
+    pub retrieve_denied : {o o' : List ℕ} {r : Bool} {g : Result Done Refusal}
         → r ≡ cookie_domain domain ((desk_at t s).suffix k) && not ((desk_at t s).waits k Cookie) → r ≡ false
         → Replied t s (reply (error ((desk_at t s).id k) ∷ []) stay) o t o' g
         → Replied t s (retrieve_rule (desk_at t s) k domain) o t o' g
     unfolding retrieve_rule ask
     retrieve_denied e h w = rw (sym e ∙ h) w
 
-    pub retrieve_done : {o t' o' lead : List ℕ} {r : Bool} {i p n : ℕ} {g : Verdict}
+    pub retrieve_done : {o t' o' lead : List ℕ} {r : Bool} {i p n : ℕ} {g : Result Done Refusal}
         → r ≡ cookie_domain domain ((desk_at t s).suffix k) && not ((desk_at t s).waits k Cookie) → r ≡ true
         → i ≡ (desk_at t s).id k → lead ≡ be 4 i → p ≡ (desk_at t s).process k
         → Sent o 0 (framed 3 p 2 (lead ++ folded domain) ∷ []) o' n → t' ≡ marked t s k Cookie → Says 0 1 n g

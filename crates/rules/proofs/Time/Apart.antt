@@ -1,15 +1,14 @@
 -- Tab non-interference: what histories say of a tab's suffix and of what it waits for is all that the reply to it depends on,
 -- besides whether it is selected. Assumes nothing.
-use Rattle.std.specs.Prelude.{ℕ, ◌≡◌, true, List, map}
+use Rattle.std.specs.Prelude.{ℕ, ◌≡◌, true, List, map, Option, Some, None}
 use Rattle.std.proofs.Math.Path.{refl, sym, ap}
 use Rattle.std.proofs.Common.{ap₂, ◌∙◌}
 use Rattle.std.proofs.lemmas.Bool.{false≢true}
 use Rattle.terms.specs.Names.{folded}
-use Rattle.fields.specs.Table.{row, number, view, tab_id, sound_table, live, name_of, tab_of, process_of, TabLive}
+use Rattle.fields.specs.Table.{row, number, view, tab_id, sound_table, live, name_of, placed, tab_of, process_of, TabLive}
 use Rattle.fields.specs.declared.mark.Mark.{Mark}
 use Rattle.fields.specs.declared.mark.Mark.TheVariants.{Cookie, Document}
 use Rattle.fields.specs.declared.place.Place.{Place}
-use Rattle.fields.specs.declared.place.Place.TheVariants.{Nowhere, At}
 use Rattle.fields.specs.Laws.Asked.{live_used}
 use Rattle.fields.specs.Laws.There.{used_there}
 use Rattle.fields.specs.Laws.Find.{process_of_lem, process_found}
@@ -47,7 +46,7 @@ record Knows (cs : List Call) (t : List ℕ) (i s k : ℕ) : Type 0 where
   cookie= : (desk_at t s).waits k Cookie ≡ pending 5 3 7 cs i
   document= : (desk_at t s).waits k Document ≡ pending 3 4 6 cs i
 
-knows : {book : List ℕ} {cs : List Call} {t : List ℕ} → History book cs t → (i s k : ℕ) → tab_of (view t) i ≡ At s k
+knows : {book : List ℕ} {cs : List Call} {t : List ℕ} → History book cs t → (i s k : ℕ) → tab_of (view t) i ≡ Some (placed s k)
     → Knows cs t i s k
 unfolding desk
 knows {cs = cs} {t = t} h i s k e =
@@ -65,7 +64,7 @@ knows {cs = cs} {t = t} h i s k e =
 
 module _ {book₁ book₂ : List ℕ} {earlier₁ earlier₂ : List Call} {t₁ t₂ : List ℕ} (h₁ : History book₁ earlier₁ t₁)
     (h₂ : History book₂ earlier₂ t₂) (i : ℕ) (c : Common earlier₁ earlier₂ t₁ t₂ i) where
-  peers : (s k r j : ℕ) → tab_of (view t₁) i ≡ At s k → tab_of (view t₂) i ≡ At r j
+  peers : (s k r j : ℕ) → tab_of (view t₁) i ≡ Some (placed s k) → tab_of (view t₂) i ≡ Some (placed r j)
       → Peers t₁ t₂ (desk_at t₁ s) k (desk_at t₂ r) j
   unfolding desk tab_chosen chosen_at seen
   peers s k r j x y =
@@ -88,11 +87,11 @@ module _ {book₁ book₂ : List ℕ} {earlier₁ earlier₂ : List Call} {t₁ 
   unfolding tab_live is_at
   both_peers = go (tab_of (view t₁) i) (tab_of (view t₂) i) refl refl
     where
-      go : (p q : Place) → tab_of (view t₁) i ≡ p → tab_of (view t₂) i ≡ q → Both t₁ t₂ (Peers t₁ t₂) p q
-      go Nowhere Nowhere x y = tt
-      go (At s k) (At r j) x y = peers s k r j x y
-      go Nowhere (At r j) x y = absurd (false≢true (sym (ap is_at x) ∙ c.live= ∙ ap is_at y))
-      go (At s k) Nowhere x y = absurd (false≢true (sym (ap is_at y) ∙ sym c.live= ∙ ap is_at x))
+      go : (p q : Option Place) → tab_of (view t₁) i ≡ p → tab_of (view t₂) i ≡ q → Both t₁ t₂ (Peers t₁ t₂) p q
+      go None None x y = tt
+      go (Some p) (Some q) x y = peers p.seat p.slot q.seat q.slot x y
+      go None (Some q) x y = absurd (false≢true (sym (ap is_at x) ∙ c.live= ∙ ap is_at y))
+      go (Some p) None x y = absurd (false≢true (sym (ap is_at y) ∙ sym c.live= ∙ ap is_at x))
 
 pub non_interference : {earlier₁ earlier₂ : List Call} {t₁ t₂ b₁ b₂ e : List ℕ} {r₁ r₂ : ℕ} {l₁ l₂ : List Frame} {u₁ u₂ : List ℕ}
     → StepMade earlier₁ t₁ b₁ e r₁ l₁ u₁ → StepMade earlier₂ t₂ b₂ e r₂ l₂ u₂ → party_of e ≡ 2

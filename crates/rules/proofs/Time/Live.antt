@@ -1,6 +1,6 @@
 -- Live tabs by their ids: what is live has an id that is live and the other way round, and what becomes of the live ids at each
 -- update. Assumes nothing.
-use Rattle.std.specs.Prelude.{ℕ, ◌≡◌, refl, true, false, ◌≢◌, ◌⊎◌, List}
+use Rattle.std.specs.Prelude.{ℕ, ◌≡◌, refl, true, false, ◌≢◌, ◌⊎◌, List, Option, Some, None}
 use Rattle.std.proofs.Common.{sym, ap₂, subst, ◌∙◌, ⊎_elim}
 use Rattle.std.proofs.lemmas.Bool.{false≢true}
 use Rattle.terms.specs.Names.{sound_book}
@@ -9,7 +9,6 @@ use Rattle.fields.specs.Table.{selected, view, tab_id, sound_table, live, tab_of
 use Rattle.fields.specs.Table.{picked, closed, waits, marked, unmarked, fresh}
 use Rattle.fields.specs.declared.mark.Mark.{Mark}
 use Rattle.fields.specs.declared.place.Place.{Place}
-use Rattle.fields.specs.declared.place.Place.TheVariants.{Nowhere, At}
 use Rattle.fields.specs.Laws.Sound.{zero_free}
 use Rattle.fields.specs.Laws.There.{live_there}
 use Rattle.fields.specs.Laws.Table.{table_facts}
@@ -47,11 +46,11 @@ pub tab_there : (t : List ℕ) (i : ℕ) → tab_live t i ≡ true → Tab t i
 unfolding tab_live is_at
 tab_there t i = go (tab_of (view t) i) refl
   where
-    go : (p : Place) → tab_of (view t) i ≡ p → is_at p ≡ true → Tab t i
-    go Nowhere e h = absurd (false≢true h)
-    go (At s k) e h =
-        let w = tab_of_lem (view t) i s k e in
-        record { seat = s; slot = k; there = w.there; id = ap₂ tab_id w.seat_is w.serial_is ∙ id_whole i }
+    go : (p : Option Place) → tab_of (view t) i ≡ p → is_at p ≡ true → Tab t i
+    go None e h = absurd (false≢true h)
+    go (Some p) e h =
+        let w = tab_of_lem (view t) i p.seat p.slot e in
+        record { seat = p.seat; slot = p.slot; there = w.there; id = ap₂ tab_id w.seat_is w.serial_is ∙ id_whole i }
 
 -- ---- tables that agree on an id
 

@@ -1,14 +1,13 @@
 -- A tab that stays: what depends on one field, where that field is as it was; and an open and a close, whichever way they go.
 -- Assumes nothing.
-use Rattle.std.specs.Prelude.{ℕ, ◌+◌, ◌≡◌, refl, true, ◌⊎◌, ◌≢◌, List}
+use Rattle.std.specs.Prelude.{ℕ, ◌+◌, ◌≡◌, refl, true, ◌⊎◌, ◌≢◌, List, Some}
 use Rattle.std.proofs.Common.{sym, ap, ◌∙◌, inl, inr, ⊎_elim}
 use Rattle.std.proofs.lemmas.Bool.{false≢true}
 use Rattle.terms.specs.Names.{folded}
 use Rattle.terms.specs.Laws.Bools.{agree}
 use Rattle.fields.specs.Table.{View, selected, opens, serial, row, waiting, number, tabs, most_opens, view, tab_id, live, used}
-use Rattle.fields.specs.Table.{owner_at, name_of, process_with, free_slot, Openable, Closable, opened, closed, waits}
+use Rattle.fields.specs.Table.{owner_at, name_of, placed, process_with, free_slot, Openable, Closable, opened, closed, waits}
 use Rattle.fields.specs.declared.place.Place.{Place}
-use Rattle.fields.specs.declared.place.Place.TheVariants.{Nowhere, At}
 use Rattle.fields.specs.declared.mark.Mark.{Mark}
 use Rattle.fields.specs.declared.mark.Mark.TheVariants.{Cookie, Document}
 use Rattle.fields.specs.Laws.Each.{at_or, same_or}
@@ -53,16 +52,9 @@ other_is Cookie Document h = refl
 other_is Document Cookie h = refl
 other_is Document Document h = absurd (h refl)
 
-pub at_apart : (r j s k : ℕ) → At r j ≡ At s k → (r ≡ s) × (j ≡ k)
-at_apart r j s k e = (ap seat e, ap slot e)
-  where
-    seat : Place → ℕ
-    seat Nowhere = 0
-    seat (At a b) = a
-
-    slot : Place → ℕ
-    slot Nowhere = 0
-    slot (At a b) = b
+pub at_apart : (r j s k : ℕ) → Some (placed r j) ≡ Some (placed s k) → (r ≡ s) × (j ≡ k)
+at_apart r j s k e =
+    let p : placed r j ≡ placed s k = cc in (ap (λ (q : Place). q.seat) p, ap (λ (q : Place). q.slot) p)
 
 -- ---- a tab that stays
 

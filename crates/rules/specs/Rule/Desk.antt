@@ -1,9 +1,8 @@
 -- What a rule sees and what it answers. A rule looks at one seat's desk; it answers a number, actions, and what becomes of the
 -- seat's tabs. Assumes nothing.
-use Rattle.std.specs.Prelude.{ℕ, ◌+◌, ◌≡◌, Bool, true, List, [], eqb}
+use Rattle.std.specs.Prelude.{ℕ, ◌+◌, ◌≡◌, Bool, true, List, [], eqb, Some}
 use Rattle.fields.specs.Table.{View, view, selected, opens, serial, row, number, tabs, last, most_opens, tab_id, live, owner_at}
-use Rattle.fields.specs.Table.{name_of, tab_of, process_with, live_tabs, waits, opened, picked, closed, marked, unmarked}
-use Rattle.fields.specs.declared.place.Place.TheVariants.{At}
+use Rattle.fields.specs.Table.{name_of, placed, tab_of, process_with, live_tabs, waits, opened, picked, closed, marked, unmarked}
 use Rattle.fields.specs.declared.mark.Mark.{Mark}
 use Rattle.rules.specs.Rule.Frame.{Frame}
 
@@ -21,7 +20,7 @@ suffix_at t s k = name_of (view t) (view t (row s k))
 
 -- the tab of an id is the live one in slot k of seat s
 pub record TabAt (t : List ℕ) (i s k : ℕ) : Type 0 where
-  pub place : tab_of (view t) i ≡ At s k
+  pub place : tab_of (view t) i ≡ Some (placed s k)
   pub there : live (view t) s k ≡ true
   pub id : id_at t s k ≡ i
 

@@ -1,6 +1,6 @@
 -- Events, document 01, "Frames", the first table, and the refusal 3: which bytes are an event, and what stands in memory for
 -- them. Assumes nothing.
-use Rattle.std.specs.Prelude.{ℕ, ◌+◌, ◌-◌, Bool, ◌&&◌, cond, List, ◌++◌, length, get_or, take, drop, eqb, leb}
+use Rattle.std.specs.Prelude.{ℕ, ◌+◌, ◌-◌, Bool, ◌&&◌, cond, List, ◌++◌, length, get_or, take, drop, eqb, leb, Option, Some, None}
 use Rattle.terms.specs.Names.{num}
 use Rattle.rules.specs.Rule.Frame.{be, Frame, framed}
 use Rattle.rules.specs.declared.event.Part.{Part}
@@ -11,8 +11,6 @@ use Rattle.rules.specs.declared.event.TabMessage.{TabMessage}
 use Rattle.rules.specs.declared.event.TabMessage.TheVariants.{Display, Socket, Url, Store, Retrieve}
 use Rattle.rules.specs.declared.event.Event.{Event}
 use Rattle.rules.specs.declared.event.Event.TheVariants.{Seat, Tab, Process, Network}
-use Rattle.rules.specs.declared.event.Reading.{Reading}
-use Rattle.rules.specs.declared.event.Reading.TheVariants.{Whole, Malformed}
 
 -- the bytes of an event that a part is
 unfoldable pub part : List ℕ → Part → List ℕ
@@ -54,36 +52,36 @@ field j n = record { at = 10 + j; len = n }
 
 -- "unknown party or tag, payload that does not fit its tag (fixed sizes; socket 2, store 1 + its length, result and document 4
 -- at least)": n is the payload's size
-unfoldable pub when : Bool → Event → Reading
-when fits v = cond fits (Whole v) Malformed
+unfoldable pub when : Bool → Event → Option Event
+when fits v = cond fits (Some v) None
 
-unfoldable pub from_seat : List ℕ → ℕ → ℕ → ℕ → Reading
+unfoldable pub from_seat : List ℕ → ℕ → ℕ → ℕ → Option Event
 from_seat e n s tag =
     cond (eqb tag 1) (when (eqb n 1) (Seat s (Key (get_or e 10 0))))
     (cond (eqb tag 2) (when (eqb n 4) (Seat s (Mouse (rest e 0))))
-    (cond (eqb tag 3) (Whole (Seat s (Open (rest e 0))))
-    Malformed))
+    (cond (eqb tag 3) (Some (Seat s (Open (rest e 0))))
+    None))
 
-unfoldable pub from_tab : List ℕ → ℕ → ℕ → ℕ → Reading
+unfoldable pub from_tab : List ℕ → ℕ → ℕ → ℕ → Option Event
 from_tab e n i tag =
     cond (eqb tag 1) (when (eqb n 12) (Tab i (Display (rest e 0))))
     (cond (eqb tag 2) (when (leb 2 n) (Tab i (Socket (num e 10 2) (rest e 2))))
-    (cond (eqb tag 3) (Whole (Tab i (Url (rest e 0))))
+    (cond (eqb tag 3) (Some (Tab i (Url (rest e 0))))
     (cond (eqb tag 4)
     (when (leb (1 + get_or e 10 0) n) (Tab i (Store (field 1 (get_or e 10 0)) (rest e (1 + get_or e 10 0)))))
-    (cond (eqb tag 5) (Whole (Tab i (Retrieve (rest e 0))))
-    Malformed))))
+    (cond (eqb tag 5) (Some (Tab i (Retrieve (rest e 0))))
+    None))))
 
 unfoldable pub delivered : List ℕ → Delivery
 delivered e = record { tab = num e 10 4; body = rest e 4 }
 
-unfoldable pub sent_by : List ℕ → ℕ → ℕ → ℕ → ℕ → Reading
+unfoldable pub sent_by : List ℕ → ℕ → ℕ → ℕ → ℕ → Option Event
 sent_by e n party i tag =
     cond (eqb party 1) (from_seat e n i tag)
     (cond (eqb party 2) (from_tab e n i tag)
     (cond (eqb party 3) (when (eqb tag 1 && leb 4 n) (Process i (delivered e)))
     (cond (eqb party 4) (when (eqb tag 1 && leb 4 n) (Network i (delivered e)))
-    Malformed)))
+    None)))
 
-unfoldable pub reading_of : List ℕ → Reading
-reading_of e = cond (sized e) (sent_by e (length e - 10) (get_or e 0 0) (num e 1 4) (get_or e 5 0)) Malformed
+unfoldable pub reading_of : List ℕ → Option Event
+reading_of e = cond (sized e) (sent_by e (length e - 10) (get_or e 0 0) (num e 1 4) (get_or e 5 0)) None

@@ -1,10 +1,9 @@
 -- Which frames are events, document 01, "Frames", the first table: a constructor for each entry, with a payload that fits its tag.
 -- Whether a seat is let, a tab or a process live, is not asked here. Assumes nothing.
-use Rattle.std.specs.Prelude.{ℕ, ◌<◌, ◌≡◌, List, ◌++◌, length}
+use Rattle.std.specs.Prelude.{ℕ, ◌<◌, ◌≡◌, List, ◌++◌, length, Some}
 use Rattle.rules.specs.Rule.Frame.{be, Frame, framed, bytes}
 use Rattle.rules.specs.Rule.Event.{event_frame, reading_of}
 use Rattle.rules.specs.declared.event.Event.{Event}
-use Rattle.rules.specs.declared.event.Reading.TheVariants.{Whole}
 
 pub data FitsTag : Frame → Type 0 where
   -- from 1, a seat: "1 key: 1 byte; 2 mouse: x, y (2 each); 3 open: suffix"
@@ -26,5 +25,5 @@ pub data FitsTag : Frame → Type 0 where
 -- its bytes are read as an event, which is the frame
 pub record ReadAs (a : Frame) : Type 0 where
   pub event : Event
-  pub reads : reading_of (bytes a) ≡ Whole event
+  pub reads : reading_of (bytes a) ≡ Some event
   pub same : event_frame (bytes a) event ≡ a

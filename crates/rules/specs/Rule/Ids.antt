@@ -1,10 +1,9 @@
 -- Ids and answers over time: no id is started twice, what is stopped was live, actions go to what is live, and nothing comes that
 -- was not asked for. `cs` are the calls of a history and `t` is its table now. Assumes nothing.
-use Rattle.std.specs.Prelude.{ℕ, ◌+◌, ◌≤◌, ◌≡◌, Bool, true, false, not, ◌≢◌, List, eqb}
+use Rattle.std.specs.Prelude.{ℕ, ◌+◌, ◌≤◌, ◌≡◌, Bool, true, false, not, ◌≢◌, List, eqb, Option, Some, None}
 use Rattle.fields.specs.Base.{one}
 use Rattle.fields.specs.Table.{view, live, tab_of, process_of, waits}
 use Rattle.fields.specs.declared.place.Place.{Place}
-use Rattle.fields.specs.declared.place.Place.TheVariants.{Nowhere, At}
 use Rattle.fields.specs.declared.mark.Mark.TheVariants.{Cookie, Document}
 use Rattle.rules.specs.Rule.Call.{Call, table, actions, left, Past, Every, given, sends, times, pending}
 use Rattle.rules.specs.Rule.Desk.{id_at}
@@ -12,9 +11,9 @@ use Rattle.rules.specs.Rule.Desk.{id_at}
 -- ---- live
 
 -- whether the tab of an id, the process of a number, is live in a table
-unfoldable pub is_at : Place → Bool
-is_at Nowhere = false
-is_at (At s k) = true
+unfoldable pub is_at : Option Place → Bool
+is_at None = false
+is_at (Some p) = true
 
 unfoldable pub tab_live : List ℕ → ℕ → Bool
 tab_live t i = is_at (tab_of (view t) i)

@@ -1,12 +1,11 @@
 -- What two steps, made in any two histories, must have in common to give the same (the Quark paper, sections 3.6 and 5.5): for
 -- every kind of event, "response integrity", and for a tab's, "tab non-interference". Assumes nothing.
-use Rattle.std.specs.Prelude.{ℕ, ◌-◌, ◌≤◌, ◌≡◌, Bool, true, false, cond, ◌≢◌, List, map, eqb}
+use Rattle.std.specs.Prelude.{ℕ, ◌-◌, ◌≤◌, ◌≡◌, Bool, true, false, cond, ◌≢◌, List, map, eqb, Option, Some, None}
 use Rattle.terms.specs.Base.{within}
 use Rattle.terms.specs.Names.{folded, sound_book}
 use Rattle.fields.specs.Table.{tenant, selected, view, tab_of, process_of, name_of}
 use Rattle.fields.specs.declared.mark.Mark.TheVariants.{Cookie, Document}
 use Rattle.fields.specs.declared.place.Place.{Place}
-use Rattle.fields.specs.declared.place.Place.TheVariants.{Nowhere, At}
 use Rattle.rules.specs.Rule.Call.{Call, step, Past, typed, pending}
 use Rattle.rules.specs.Rule.History.{History}
 use Rattle.rules.specs.Rule.Ids.{tab_live, process_live}
@@ -17,7 +16,6 @@ use Rattle.rules.specs.declared.event.TabMessage.{TabMessage}
 use Rattle.rules.specs.declared.event.TabMessage.TheVariants.{Display, Socket, Url, Store, Retrieve}
 use Rattle.rules.specs.declared.event.Event.{Event}
 use Rattle.rules.specs.declared.event.Event.TheVariants.{Seat, Tab, Process, Network}
-use Rattle.rules.specs.declared.event.Reading.TheVariants.{Whole}
 
 -- ---- a step that was made
 
@@ -104,11 +102,11 @@ abbrev pub SameDocument : Desk → ℕ → Desk → ℕ → Type 0
 SameDocument d₁ k₁ d₂ k₂ = d₁.waits k₁ Document ≡ d₂.waits k₂ Document
 
 -- A tab that is live in both tables, at places of which R holds, or in neither.
-abbrev pub Both : List ℕ → List ℕ → (Desk → ℕ → Desk → ℕ → Type 0) → Place → Place → Type 0
-Both t₁ t₂ R Nowhere Nowhere = Unit {0}
-Both t₁ t₂ R (At s k) (At r j) = R (desk_at t₁ s) k (desk_at t₂ r) j
-Both t₁ t₂ R Nowhere (At r j) = ⊥
-Both t₁ t₂ R (At s k) Nowhere = ⊥
+abbrev pub Both : List ℕ → List ℕ → (Desk → ℕ → Desk → ℕ → Type 0) → Option Place → Option Place → Type 0
+Both t₁ t₂ R None None = Unit {0}
+Both t₁ t₂ R (Some p) (Some q) = R (desk_at t₁ p.seat) p.slot (desk_at t₂ q.seat) q.slot
+Both t₁ t₂ R None (Some q) = ⊥
+Both t₁ t₂ R (Some p) None = ⊥
 
 abbrev pub BothLive : List ℕ → List ℕ → (Desk → ℕ → Desk → ℕ → Type 0) → ℕ → Type 0
 BothLive t₁ t₂ R i = Both t₁ t₂ R (tab_of (view t₁) i) (tab_of (view t₂) i)
@@ -125,14 +123,14 @@ SameFor t₁ t₂ b₁ b₂ e (Network n r) = n ≡ 0 → BothLive t₁ t₂ Sam
 
 -- Any bytes: what the event that they are read as depends on, and nothing where they are none.
 abbrev pub Agree : (t₁ t₂ b₁ b₂ e : List ℕ) → Type 0
-Agree t₁ t₂ b₁ b₂ e = (v : Event) → reading_of e ≡ Whole v → SameFor t₁ t₂ b₁ b₂ e v
+Agree t₁ t₂ b₁ b₂ e = (v : Event) → reading_of e ≡ Some v → SameFor t₁ t₂ b₁ b₂ e v
 
 -- ---- tab non-interference
 
 -- Whether the tab of an id is the selected one of its seat.
-unfoldable pub chosen_at : List ℕ → Place → Bool
-chosen_at t Nowhere = false
-chosen_at t (At s k) = eqb (view t (selected s)) k
+unfoldable pub chosen_at : List ℕ → Option Place → Bool
+chosen_at t None = false
+chosen_at t (Some p) = eqb (view t (selected p.seat)) p.slot
 
 unfoldable pub tab_chosen : List ℕ → ℕ → Bool
 tab_chosen t i = chosen_at t (tab_of (view t) i)

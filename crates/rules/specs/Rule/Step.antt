@@ -1,10 +1,9 @@
 -- The two calls, document 01, "Numbers given back" and "Table", its last paragraph: what each gives for any bytes, refusals in
 -- the document's order, and what a call leaves. Assumes nothing.
-use Rattle.std.specs.Prelude.{ℕ, ◌+◌, ◌*◌, ◌/◌, ◌%◌, ◌≡◌, not, cond, List, [], length, eqb, ltb}
+use Rattle.std.specs.Prelude.{ℕ, ◌+◌, ◌*◌, ◌/◌, ◌%◌, ◌≡◌, not, cond, List, [], length, eqb, ltb, Option, Some, None}
 use Rattle.terms.specs.Names.{sound_book}
 use Rattle.fields.specs.Table.{tenant, table_bytes, view, sound_table, tab_of, process_of, fresh}
 use Rattle.fields.specs.declared.place.Place.{Place}
-use Rattle.fields.specs.declared.place.Place.TheVariants.{Nowhere, At}
 use Rattle.rules.specs.Rule.Frame.{Frame, frames, over}
 use Rattle.rules.specs.Rule.Event.{part, reading_of}
 use Rattle.rules.specs.Rule.Desk.{Desk, desk_at, Reply, changed}
@@ -12,8 +11,6 @@ use Rattle.rules.specs.Rule.Seat.{seat_rule}
 use Rattle.rules.specs.Rule.Tab.{tab_rule, result_rule, document_rule}
 use Rattle.rules.specs.declared.event.Event.{Event}
 use Rattle.rules.specs.declared.event.Event.TheVariants.{Seat, Tab, Process, Network}
-use Rattle.rules.specs.declared.event.Reading.{Reading}
-use Rattle.rules.specs.declared.event.Reading.TheVariants.{Whole, Malformed}
 
 -- ---- an outcome
 
@@ -32,9 +29,9 @@ made t s r = record { number = r.number; actions = r.actions; table = changed t 
 -- ---- step
 
 -- what is asked of the tab at a place; n is the refusal where there is none
-unfoldable pub at_tab : List ℕ → ℕ → Place → (Desk → ℕ → Reply) → Outcome
-at_tab t n Nowhere f = refused n t
-at_tab t n (At s k) f = made t s (f (desk_at t s) k)
+unfoldable pub at_tab : List ℕ → ℕ → Option Place → (Desk → ℕ → Reply) → Outcome
+at_tab t n None f = refused n t
+at_tab t n (Some p) f = made t p.seat (f (desk_at t p.seat) p.slot)
 
 -- 4: "seat not let, tab or process not live, network id not 0"; 10: "result or document that no such tab waits for"
 unfoldable pub event_rule : List ℕ → List ℕ → List ℕ → Event → Outcome
@@ -47,9 +44,9 @@ event_rule t b e (Network n r) =
     cond (not (eqb n 0)) (refused 4 t)
     (at_tab t 10 (tab_of (view t) r.tab) (λ d k. document_rule d k (part e r.body)))
 
-unfoldable pub read_rule : List ℕ → List ℕ → List ℕ → Reading → Outcome
-read_rule t b e Malformed = refused 3 t
-read_rule t b e (Whole v) = event_rule t b e v
+unfoldable pub read_rule : List ℕ → List ℕ → List ℕ → Option Event → Outcome
+read_rule t b e None = refused 3 t
+read_rule t b e (Some v) = event_rule t b e v
 
 -- 1: "output room below 4,106 bytes"
 abbrev pub room_needed : ℕ

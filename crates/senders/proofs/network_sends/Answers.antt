@@ -1,27 +1,30 @@
 -- A network id that is not 0 is refused 4, and a document for no live tab 10. Assumes nothing.
+use Rattle.std.proofs.lemmas.Result.{err_from_is_err_and}
 use Rattle.fields.specs.Laws.Table.{table_facts}
+use Rattle.rules.proofs.Steps.Decide.{none_is}
 use Rattle.rules.proofs.Steps.Serve.{part_small, tab_there, network_other, network_nowhere, network_served}
 use Rattle.senders.proofs.network_sends.Goals as goal
 
 pub returns-then-n-ne0 : goal.returns-then-n-ne0
-returns-then-n-ne0 c = network_other _ _ _ _ c.if-n-ne0.true c.refused.ensures
+returns-then-n-ne0 c = network_other _ _ _ _ c.if-n-ne0.true
 
-pub tab_of-place-requires : goal.tab_of-place-requires
-tab_of-place-requires c =
-    (table_facts _ c.requires.0.sound).long
+pub tab_of-requires : goal.tab_of-requires
+tab_of-requires c = (table_facts _ c.requires.0.sound).long
+
+pub returns-in_err-place : goal.returns-in_err-place
+returns-in_err-place c =
+    let e = c.in_err-place.ensures in
+    let p = err_from_is_err_and c.from_residual.result c.from_residual.ensures.1 in
+    rw (p.1, p.2, none_is e.value e.ok_part)
+    (network_nowhere _ _ _ _ c.if-n-ne0.false c.tab_of.ensures e.ok_part)
 
 pub document-requires : goal.document-requires
 document-requires c = (
-  tab_there c.args.d.tab c.requires.0 c.tab_of-place.ensures c.in-At.is,
+  tab_there c.args.d.tab c.requires.0 c.tab_of.ensures c.in_ok-place.ensures.ok_part,
   part_small _ _ c.part_of.ensures c.requires.1,
 )
 
-pub returns-in-Nowhere : goal.returns-in-Nowhere
-returns-in-Nowhere c =
-    network_nowhere _ _ _ _ c.if-n-ne0.false c.tab_of-place.ensures c.in-Nowhere.is
-    c.refused-in-Nowhere.ensures
-
-pub returns-in-At : goal.returns-in-At
-returns-in-At c =
-    network_served _ _ _ _ c.if-n-ne0.false c.tab_of-place.ensures c.in-At.is
+pub returns : goal.returns
+returns c =
+    network_served _ _ _ _ c.if-n-ne0.false c.tab_of.ensures c.in_ok-place.ensures.ok_part
     c.part_of.ensures c.document.ensures

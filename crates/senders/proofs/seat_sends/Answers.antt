@@ -8,7 +8,7 @@ is_let-requires c =
     (table_facts _ c.requires.0.sound).long
 
 pub returns-then-not-is_let : goal.returns-then-not-is_let
-returns-then-not-is_let c = seat_unlet _ _ _ _ c.is_let.ensures c.if-not-is_let.true c.refused.ensures
+returns-then-not-is_let c = seat_unlet _ _ _ _ c.is_let.ensures c.if-not-is_let.true
 
 pub returns : goal.returns
 returns c =

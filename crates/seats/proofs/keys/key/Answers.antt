@@ -15,7 +15,7 @@ returns-then-k-eq25 c =
 pub returns-then-not-is_plain : goal.returns-then-not-is_plain
 returns-then-not-is_plain c =
     key_bad _ (sym c.is_within.ensures ∙ c.if-is_within.false) c.if-k-eq25.false
-    (sym c.is_plain.ensures ∙ c.if-not-is_plain.true) c.refused.ensures
+    (sym c.is_plain.ensures ∙ c.if-not-is_plain.true)
 
 pub returns : goal.returns
 returns c =

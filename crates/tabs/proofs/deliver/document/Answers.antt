@@ -9,7 +9,7 @@ is_waiting-requires c =
 
 pub returns-then-not-is_waiting : goal.returns-then-not-is_waiting
 returns-then-not-is_waiting c =
-    document_refused _ _ _ _ c.is_waiting.ensures c.if-not-is_waiting.true c.refused.ensures
+    document_refused _ _ _ _ c.is_waiting.ensures c.if-not-is_waiting.true
 
 pub returns : goal.returns
 returns c =

@@ -4,7 +4,7 @@ use Rattle.tabs.proofs.deliver.result.Goals as goal
 
 pub returns-then-not-is_asked : goal.returns-then-not-is_asked
 returns-then-not-is_asked c =
-    result_refused _ _ _ _ _ c.is_asked.ensures c.if-not-is_asked.true c.refused.ensures
+    result_refused _ _ _ _ _ c.is_asked.ensures c.if-not-is_asked.true
 
 pub pass_on-requires : goal.pass_on-requires
 pass_on-requires c =
