@@ -3,15 +3,12 @@
 
 mod answer;
 mod command;
-mod into;
 mod many;
 mod seat;
 mod shape;
 
 fn main(rt: HostRuntime) {
-    let mut script = runs::script::room();
-    let n = runs::script::read(&rt, &mut script);
     let mut beside = [0u8; 32769];
-    command::run(&rt, &script[..n], &mut beside);
-    runs::script::end(&rt);
+    let mut n = 0;
+    runs::script::run(&rt, |l| n = command::obey(&rt, &mut beside, n, l));
 }

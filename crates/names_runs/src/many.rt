@@ -7,17 +7,15 @@ use runs::put;
 fn letter(k: usize) -> u8
     ensures { result ≡ 97 + k % 26 }
 {
-    97 + (k % 26) as u8
+    b'a' + (k % 26) as u8
 }
 
 pub fn put_names(to: &mut [u8]) {
-    let mut k = 0;
-    while k < 519 {
+    for k in 0..519 {
         put(
             to,
             63 * k,
             &[62, letter(k / 676), letter(k / 26), letter(k)],
         );
-        k += 1;
     }
 }

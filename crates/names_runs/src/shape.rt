@@ -1,35 +1,45 @@
 // The commands and the questions, by their shapes.
-use runs::shape::place_in;
+use runs::shape::{Kind, Shape};
 
-// Each is its place in the list of `command_of`; 0 is none.
-pub const WITH: usize = 1;
-
-pub const POKE: usize = 2;
-
-pub const NAMES: usize = 3;
-
-pub const NAME: usize = 4;
-
-pub const DOT: usize = 5;
-
-pub const FOLDED: usize = 6;
-
-pub const UNDER: usize = 7;
-
-pub const FOLD: usize = 8;
-
-pub const INTO: usize = 9;
-
-pub const SEAT: usize = 10;
-
-pub const OWNER: usize = 11;
-
-pub const SUFFIX: usize = 12;
-
-pub fn command_of(q: &[u8]) -> usize {
-    place_in(
-        q,
-        b"with p,poke np,names,name p,dot p,folded p,under p,fold p,into p,seat p,owner p,suffix np,sound",
-        13,
-    )
+// What is asked of the bytes of a question, and of the bytes beside them.
+#[derive(Clone, Copy)]
+pub enum Question {
+    Name,
+    Dot,
+    Folded,
+    Under,
+    Fold,
+    Into,
+    Seat,
+    Owner,
+    Suffix,
+    Sound,
 }
+
+#[derive(Clone, Copy)]
+pub enum Command {
+    With,
+    Poke,
+    Names,
+    Ask(Question),
+}
+
+pub const SHAPES: [Shape<Command>; 13] = [
+    ("with", &[Kind::Pieces], Command::With),
+    ("poke", &[Kind::Number, Kind::Pieces], Command::Poke),
+    ("names", &[], Command::Names),
+    ("name", &[Kind::Pieces], Command::Ask(Question::Name)),
+    ("dot", &[Kind::Pieces], Command::Ask(Question::Dot)),
+    ("folded", &[Kind::Pieces], Command::Ask(Question::Folded)),
+    ("under", &[Kind::Pieces], Command::Ask(Question::Under)),
+    ("fold", &[Kind::Pieces], Command::Ask(Question::Fold)),
+    ("into", &[Kind::Pieces], Command::Ask(Question::Into)),
+    ("seat", &[Kind::Pieces], Command::Ask(Question::Seat)),
+    ("owner", &[Kind::Pieces], Command::Ask(Question::Owner)),
+    (
+        "suffix",
+        &[Kind::Number, Kind::Pieces],
+        Command::Ask(Question::Suffix),
+    ),
+    ("sound", &[], Command::Ask(Question::Sound)),
+];

@@ -1,3 +1,4 @@
 -- Laws that several proofs cite.
 pub mod Digits
+pub mod Dots
 pub mod Stores

@@ -1,68 +1,35 @@
 // What an update changed: the table before it beside the table after it.
 ghost use Rattle.std.specs.Prelude.{◌≤◌, length};
 
-use crate::say;
-use terms::byte::wide;
-
 // The byte at a place; 0 past the end.
 pub fn byte_at(s: &[u8], i: usize) -> u8 {
-    if i < s.len() {
-        return s[i];
-    }
-    0
-}
-
-// 1 if the byte at a place has changed, else 0.
-fn changed(old: &[u8], new: &[u8], i: usize) -> usize
-    ensures { result ≤ 1 }
-{
-    if byte_at(old, i) == byte_at(new, i) {
-        0
-    } else {
-        1
-    }
+    s.get(i).copied().unwrap_or(0)
 }
 
 // How many bytes have changed.
 pub fn count(old: &[u8], new: &[u8]) -> usize
     ensures { result ≤ length new.now }
 {
-    let mut n: usize = 0;
-    let mut i = 0;
-    while i < new.len() {
-        n += changed(old, new, i);
-        i += 1;
-    }
-    n
-}
-
-// A line for the byte at a place, if it has changed.
-fn say_at(rt: &impl Print, old: &[u8], new: &[u8], i: usize) {
-    if changed(old, new, i) == 0 {
-        return;
-    }
-    say::byte(rt, b' ');
-    say::spaced(rt, i);
-    say::spaced(rt, wide(byte_at(old, i)));
-    say::spaced(rt, wide(byte_at(new, i)));
-    say::end(rt);
+    new.iter()
+        .enumerate()
+        .filter(|(i, b)| byte_at(old, *i) != **b)
+        .count()
 }
 
 // A line for each byte that has changed.
 pub fn say_each(rt: &impl Print, old: &[u8], new: &[u8]) {
     if count(old, new) == 0 {
-        say::line(rt, b"  nothing changes");
-        return;
+        let _ = println!(rt; "  nothing changes");
     }
-    let mut i = 0;
-    while i < new.len() {
-        say_at(rt, old, new, i);
-        i += 1;
+    for (i, is) in new.iter().enumerate() {
+        let was = byte_at(old, i);
+        if was != *is {
+            let _ = println!(rt; "  {i} {was} {is}");
+        }
     }
 }
 
 pub fn say_count(rt: &impl Print, old: &[u8], new: &[u8]) {
-    say::byte(rt, b' ');
-    say::spaced(rt, count(old, new));
-    say::line(rt, b" bytes change");
+    let n = count(old, new);
+    let _ = println!(rt; "  {n} bytes change");
 }

@@ -2,15 +2,9 @@
 ghost use Rattle.std.specs.Prelude.{◌≡◌};
 ghost use Rattle.terms.specs.Names.{has_dot};
 
+#[tactic(auto, using(crate::proofs::Dots::dot_any))]
 pub fn has_dot(s: &[u8]) -> bool
     ensures { result ≡ has_dot s.now }
 {
-    let mut i = 0;
-    while i < s.len() {
-        if s[i] == b'.' {
-            return true;
-        }
-        i += 1;
-    }
-    false
+    s.contains(&b'.')
 }

@@ -1,67 +1,52 @@
 // Bytes as lower-case hex, read and written.
-ghost use Rattle.std.specs.Prelude.{◌≤◌};
+ghost use Rattle.std.specs.Prelude.{◌<◌, IfSome};
 ghost use Rattle.reader.specs.Front.{IsPrefixLen};
 
-use crate::say;
-use terms::byte::wide;
-
-// No digit.
-const NONE: u8 = 16;
+use std::fmt;
 
 // What a digit stands for.
-fn value_of(digit: u8) -> u8
-    ensures { result ≤ 16 }
+fn value_of(digit: u8) -> Option<u8>
+    ensures { IfSome result (λ v. v < 16) }
 {
     match digit {
-        b'0'..=b'9' => digit - b'0',
-        b'a'..=b'f' => digit - b'a' + 10,
-        _ => NONE,
+        b'0'..=b'9' => Some(digit - b'0'),
+        b'a'..=b'f' => Some(digit - b'a' + 10),
+        _ => None,
     }
 }
 
 // Pairs of digits: at least one, and nothing else.
 pub fn is_hex(w: &[u8]) -> bool {
-    let mut i = 0;
-    while i < w.len() {
-        if value_of(w[i]) == NONE {
-            return false;
-        }
-        i += 1;
-    }
-    i % 2 == 0 && i != 0
+    w.len() % 2 == 0 && !w.is_empty() && w.iter().all(|digit| value_of(*digit).is_some())
 }
 
-fn byte_of(high: u8, low: u8) -> u8 {
-    let n = 16 * wide(value_of(high)) + wide(value_of(low));
-    (n % 256) as u8
+fn byte_of(high: u8, low: u8) -> Option<u8> {
+    Some(16 * value_of(high)? + value_of(low)?)
 }
 
-// Writes the bytes of a word over the first of `to`, as many as there is room for.
-fn fill(to: &mut [u8], w: &[u8]) {
-    let mut i = 0;
-    while i < to.len() {
-        if w.len() / 2 <= i {
-            return;
-        }
-        to[i] = byte_of(w[2 * i], w[2 * i + 1]);
-        i += 1;
-    }
-}
-
-// How many bytes a word has put at the start of `to`; 0 if it has no room there.
-pub fn bytes_of(to: &mut [u8], w: &[u8]) -> usize
-    ensures { IsPrefixLen result to.new }
+// How many bytes a word has put at the start of `to`, if it is hex and has room there.
+pub fn bytes_of(to: &mut [u8], w: &[u8]) -> Option<usize>
+    ensures { IfSome result (λ n. IsPrefixLen n to.new) }
 {
-    if to.len() < w.len() / 2 {
-        return 0;
+    let n = w.len() / 2;
+    if to.len() < n {
+        return None;
     }
-    fill(to, w);
-    w.len() / 2
+    for i in 0..n {
+        to[i] = byte_of(w[2 * i], w[2 * i + 1])?;
+    }
+    Some(n)
 }
 
-pub fn say_bytes(rt: &impl Print, s: &[u8]) {
-    for b in s {
-        say::hexed(rt, *b);
+// Bytes, each printed as two digits.
+#[derive(Clone, Copy)]
+pub struct Hexed<'s>(pub &'s [u8]);
+
+impl fmt::Display for Hexed<'_> {
+    fn fmt<W: fmt::Write>(&self, f: &mut fmt::Formatter<W>) -> fmt::Result {
+        for b in self.0 {
+            write!(f, "{b:02x}")?;
+        }
+        Ok(())
     }
-    say::end(rt);
 }

@@ -18,15 +18,8 @@ ghost use Rattle.std.proofs.lemmas.List.Edits.{sets};
 pub fn put(to: &mut [u8], at: usize, bytes: &[u8])
     ensures { to.new ≡ sets to.old at bytes.now }
 {
-    if to.len() < at {
-        return;
-    }
-    let mut i = 0;
-    while i < bytes.len() {
-        if to.len() - at <= i {
-            return;
-        }
-        to[at + i] = bytes[i];
-        i += 1;
+    if at < to.len() {
+        let n = bytes.len().min(to.len() - at);
+        to[at..at + n].copy_from_slice(&bytes[..n]);
     }
 }

@@ -1,60 +1,57 @@
-// Commands by their shapes: a word, and a letter for each word after it. n is a decimal number, h bytes in hex, m a mark,
-// s any word; p is bytes in pieces, to the end of the line.
+// Commands by their shapes: a word, and a kind for each word after it.
 use crate::hexed::is_hex;
-use crate::number::is_number;
-use crate::parts::{count, part, word};
-use crate::pieces::are_bytes;
+use crate::number::number_of;
+use crate::pieces::Piece;
 
-// The same bytes.
-fn is_same(a: &[u8], b: &[u8]) -> bool {
-    a == b
+// What a word of a line has to be.
+#[derive(Clone, Copy)]
+pub enum Kind {
+    // a decimal number
+    Number,
+    // bytes in hex
+    Hex,
+    // what a tab may wait for
+    Mark,
+    // any word
+    Word,
+    // bytes in pieces, to the end of the line
+    Pieces,
 }
 
-pub fn is_cookie(w: &[u8]) -> bool {
-    is_same(w, b"cookie")
-}
+// A command's first word, the kinds of those after it, and the command.
+pub type Shape<C> = (&'static str, &'static [Kind], C);
 
-fn is_mark(w: &[u8]) -> bool {
-    is_cookie(w) || is_same(w, b"document")
-}
-
-fn fits(w: &[u8], letter: u8) -> bool {
-    match letter {
-        b'n' => is_number(w),
-        b'h' => is_hex(w),
-        b'm' => is_mark(w),
-        _ => w.len() != 0,
+impl Kind {
+    fn fits(self, w: &[u8]) -> bool {
+        match self {
+            Kind::Number => number_of(w).is_some(),
+            Kind::Hex => is_hex(w),
+            Kind::Mark => matches!(w, b"cookie" | b"document"),
+            Kind::Word => !w.is_empty(),
+            Kind::Pieces => Piece::of(w).is_some(),
+        }
     }
 }
 
-// The words after a line's first fit their letters.
-fn are_fit(l: &[u8], letters: &[u8]) -> bool {
-    let mut i = 0;
-    while i < letters.len() {
-        if letters[i] == b'p' {
-            return are_bytes(l, i + 1);
+// The line has this first word, and its other words are of these kinds.
+fn is(l: &[u8], first: &str, kinds: &[Kind]) -> bool {
+    let mut words = l.split(|b| *b == b' ');
+    if words.next() != Some(first.as_bytes()) {
+        return false;
+    }
+    for kind in kinds {
+        if let Kind::Pieces = kind {
+            return words.all(|w| kind.fits(w));
         }
-        if !fits(word(l, i + 1), letters[i]) {
+        if !words.next().is_some_and(|w| kind.fits(w)) {
             return false;
         }
-        i += 1;
     }
-    count(l, b' ') == letters.len()
+    words.next().is_none()
 }
 
-// The line has this shape.
-fn is(l: &[u8], shape: &[u8]) -> bool {
-    is_same(word(l, 0), word(shape, 0)) && are_fit(l, word(shape, 1))
-}
-
-// The place, from 1, of the line's shape in a list of so many; 0 if it is not there.
-pub fn place_in(l: &[u8], shapes: &[u8], count: usize) -> usize {
-    let mut k: usize = 0;
-    while k < count {
-        if is(l, part(shapes, b',', k)) {
-            return k + 1;
-        }
-        k += 1;
-    }
-    0
+// The command that a line is, of those that have these shapes.
+pub fn command_of<C: Copy>(l: &[u8], shapes: &[Shape<C>]) -> Option<C> {
+    let (_, _, command) = shapes.iter().find(|(first, kinds, _)| is(l, first, kinds))?;
+    Some(*command)
 }

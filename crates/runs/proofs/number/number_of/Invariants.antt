@@ -1,11 +1,7 @@
 -- The loop keeps: the digits so far are the number so far. Assumes nothing.
-use Rattle.std.proofs.Common.{◌≡◌, ◌-◌, ◌≤◌, length}
+use Rattle.std.proofs.Common.{◌≡◌, Some}
 use Rattle.runs.specs.Decimal.{digits}
-use Rattle.runs.specs.declared.number.Number.TheVariants.{Is}
 use Rattle.runs.proofs.number.number_of.Given as goal
 
-abbrev pub invariant-loop-i : goal.invariant-loop-i
-invariant-loop-i l = (l.i ≤ length l.w) × (digits l.w l.i ≡ Is l.n)
-
-abbrev pub decreases-loop-i : goal.decreases-loop-i
-decreases-loop-i l = length l.w - l.i
+abbrev pub invariant-loop-digit : goal.invariant-loop-digit
+invariant-loop-digit l = digits l.w l.digit-index ≡ Some l.n
