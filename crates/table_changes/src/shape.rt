@@ -1,63 +1,95 @@
 // The commands, by their shapes.
 use fields::mark::Mark;
 use runs::parts::word;
-use runs::script::command_in;
-use runs::shape::is_cookie;
+use runs::shape::{Kind, Shape};
 
-// Each command is its place in the list of `command_of`; 0 is none.
-pub const SOUND: usize = 1;
+// What is asked of a table.
+#[derive(Clone, Copy)]
+pub enum Question {
+    Sound,
+    Cut,
+    Show,
+    Tab,
+    Process,
+    With,
+    Row,
+    Slot,
+    Count,
+    Owner,
+    Name,
+}
 
-pub const CUT: usize = 2;
+// What is asked for on a seat.
+#[derive(Clone, Copy)]
+pub enum Update {
+    Open,
+    Pick,
+    Close,
+    Mark,
+    Unmark,
+}
 
-pub const SHOW: usize = 3;
+#[derive(Clone, Copy)]
+pub enum Command {
+    Ask(Question),
+    Keep,
+    Back,
+    Fresh,
+    Poke,
+    Change(Update),
+}
 
-pub const TAB: usize = 4;
-
-pub const PROCESS: usize = 5;
-
-pub const WITH: usize = 6;
-
-pub const ROW: usize = 7;
-
-pub const SLOT: usize = 8;
-
-pub const COUNT: usize = 9;
-
-pub const OWNER: usize = 10;
-
-pub const NAME: usize = 11;
-
-pub const KEEP: usize = 12;
-
-pub const BACK: usize = 13;
-
-pub const FRESH: usize = 14;
-
-pub const POKE: usize = 15;
-
-pub const OPEN: usize = 16;
-
-pub const PICK: usize = 17;
-
-pub const CLOSE: usize = 18;
-
-pub const MARK: usize = 19;
-
-pub const UNMARK: usize = 20;
+pub const SHAPES: [Shape<Command>; 20] = [
+    ("sound", &[], Command::Ask(Question::Sound)),
+    ("cut", &[Kind::Number], Command::Ask(Question::Cut)),
+    (
+        "show",
+        &[Kind::Number, Kind::Number],
+        Command::Ask(Question::Show),
+    ),
+    ("tab", &[Kind::Number], Command::Ask(Question::Tab)),
+    ("process", &[Kind::Number], Command::Ask(Question::Process)),
+    (
+        "with",
+        &[Kind::Number, Kind::Word],
+        Command::Ask(Question::With),
+    ),
+    ("row", &[], Command::Ask(Question::Row)),
+    ("slot", &[Kind::Number], Command::Ask(Question::Slot)),
+    ("count", &[Kind::Number], Command::Ask(Question::Count)),
+    ("owner", &[Kind::Number], Command::Ask(Question::Owner)),
+    ("name", &[Kind::Number], Command::Ask(Question::Name)),
+    ("keep", &[], Command::Keep),
+    ("back", &[], Command::Back),
+    ("fresh", &[Kind::Hex], Command::Fresh),
+    ("poke", &[Kind::Number, Kind::Hex], Command::Poke),
+    (
+        "open",
+        &[Kind::Number, Kind::Word],
+        Command::Change(Update::Open),
+    ),
+    (
+        "pick",
+        &[Kind::Number, Kind::Number],
+        Command::Change(Update::Pick),
+    ),
+    ("close", &[Kind::Number], Command::Change(Update::Close)),
+    (
+        "mark",
+        &[Kind::Number, Kind::Number, Kind::Mark],
+        Command::Change(Update::Mark),
+    ),
+    (
+        "unmark",
+        &[Kind::Number, Kind::Number, Kind::Mark],
+        Command::Change(Update::Unmark),
+    ),
+];
 
 // The mark that word k of a line is.
 pub fn mark_at(l: &[u8], k: usize) -> Mark {
-    if is_cookie(word(l, k)) {
-        return Mark::Cookie;
+    match word(l, k) {
+        b"cookie" => Mark::Cookie,
+        _ => Mark::Document,
     }
-    Mark::Document
-}
-
-pub fn command_of(rt: &impl Print, l: &[u8]) -> usize {
-    command_in(
-        rt,
-        l,
-        b"sound,cut n,show nn,tab n,process n,with ns,row,slot n,count n,owner n,name n,keep,back,fresh h,poke nh,open ns,pick nn,close n,mark nnm,unmark nnm",
-        20,
-    )
 }

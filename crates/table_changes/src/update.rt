@@ -1,8 +1,9 @@
-// The updates of the table layer, each done where nothing stands against it. The answer is what does, or 0.
+// The updates of the table layer, each done where nothing stands against it.
 ghost use Rattle.table_changes.specs.Seat.{LetSeat};
 
-use crate::shape::{CLOSE, MARK, OPEN, PICK, mark_at};
+use crate::shape::{Update, mark_at};
 use crate::why;
+use crate::why::Why;
 use fields::mark::Mark;
 use runs::hexed::bytes_of;
 use runs::number::number_at;
@@ -10,81 +11,85 @@ use runs::parts::word;
 use soundness::tab::owner_at;
 use table::find::process_with;
 
-fn fresh_from(t: &mut [u8], book: &[u8]) -> usize {
-    if !fields::layout::is_long(t) {
-        return 6;
-    }
-    if !names::book::is_sound(book) {
-        return 6;
+// A start is refused.
+#[derive(Clone, Copy)]
+pub struct UnsoundBook;
+
+fn fresh_from(t: &mut [u8], book: &[u8]) -> Result<(), UnsoundBook> {
+    if !fields::layout::is_long(t) || !names::book::is_sound(book) {
+        return Err(UnsoundBook);
     }
     table::fresh::fresh(t, book);
-    0
+    Ok(())
 }
 
-// From the book that a word is in hex; 6 if that is unsound.
-pub fn fresh(t: &mut [u8], w: &[u8]) -> usize {
+// From the book that a word is in hex. One that there is no room for counts as empty.
+pub fn fresh(t: &mut [u8], w: &[u8]) -> Result<(), UnsoundBook> {
     let mut book = [0u8; 4096];
-    let n = bytes_of(&mut book, w);
+    let n = bytes_of(&mut book, w).unwrap_or(0);
     fresh_from(t, &book[..n])
 }
 
-fn open(t: &mut [u8], s: usize, suffix: &[u8]) -> usize
+#[tactic(auto, using(fields::specs::Laws::Asked::open_seat))]
+fn open(t: &mut [u8], s: usize, suffix: &[u8]) -> Result<(), Why>
     requires { LetSeat t.old s }
 {
-    let why = why::open(t, s, suffix);
-    if why != 0 {
-        return why;
-    }
+    why::open(t, s, suffix)?;
     let p = process_with(t, owner_at(t, s), suffix);
     table::open::open(t, s, p, suffix);
-    0
+    Ok(())
 }
 
-fn close(t: &mut [u8], s: usize) -> usize
+fn pick(t: &mut [u8], s: usize, k: usize) -> Result<(), Why>
+    requires { LetSeat t.old s }
+{
+    why::tab(t, s, k)?;
+    table::close::pick(t, s, k);
+    Ok(())
+}
+
+#[tactic(auto, using(crate::proofs::Seats::seat_of))]
+fn close(t: &mut [u8], s: usize) -> Result<(), Why>
     requires { LetSeat t.old s }
 {
     if fields::layout::selected(t, s) == 0 {
-        return why::NONE;
+        return Err(Why::NoTab);
     }
     table::close::close(t, s);
-    0
+    Ok(())
 }
 
-// A selection, or a mark.
-fn on_tab(t: &mut [u8], s: usize, k: usize, m: Mark, c: usize) -> usize
+#[tactic(auto, using(fields::specs::Laws::Asked::live_tab))]
+fn mark(t: &mut [u8], s: usize, k: usize, m: Mark) -> Result<(), Why>
     requires { LetSeat t.old s }
 {
-    let why = why::tab(t, s, k);
-    if why != 0 {
-        return why;
+    why::tab(t, s, k)?;
+    if table::mark::is_waiting(t, s, k, m) {
+        return Err(Why::Waits);
     }
-    if c == PICK {
-        table::close::pick(t, s, k);
-        return 0;
-    }
-    let waits = table::mark::is_waiting(t, s, k, m);
-    if c == MARK {
-        if waits {
-            return why::WAITS;
-        }
-        table::mark::set_mark(t, s, k, m);
-        return 0;
-    }
-    if waits {
-        table::mark::clear_mark(t, s, k, m);
-        return 0;
-    }
-    why::WAITS_NOT
+    table::mark::set_mark(t, s, k, m);
+    Ok(())
 }
 
-pub fn on_seat(t: &mut [u8], s: usize, l: &[u8], c: usize) -> usize {
-    let why = why::let_seat(t, s);
-    if why != 0 {
-        return why;
+#[tactic(auto, using(fields::specs::Laws::Asked::live_tab))]
+fn unmark(t: &mut [u8], s: usize, k: usize, m: Mark) -> Result<(), Why>
+    requires { LetSeat t.old s }
+{
+    why::tab(t, s, k)?;
+    if !table::mark::is_waiting(t, s, k, m) {
+        return Err(Why::WaitsNot);
     }
-    match c {
-        OPEN => open(t, s, word(l, 2)),
-        CLOSE => close(t, s),
-        _ => on_tab(t, s, number_at(l, 2), mark_at(l, 3), c),
+    table::mark::clear_mark(t, s, k, m);
+    Ok(())
+}
+
+pub fn on_seat(t: &mut [u8], s: usize, l: &[u8], update: Update) -> Result<(), Why> {
+    why::let_seat(t, s)?;
+    match update {
+        Update::Open => open(t, s, word(l, 2)),
+        Update::Pick => pick(t, s, number_at(l, 2)),
+        Update::Close => close(t, s),
+        Update::Mark => mark(t, s, number_at(l, 2), mark_at(l, 3)),
+        Update::Unmark => unmark(t, s, number_at(l, 2), mark_at(l, 3)),
     }
 }

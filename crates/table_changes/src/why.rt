@@ -1,116 +1,111 @@
-// What stands against an update: each condition that the table layer asks of its callers, tested. 0 says that nothing does.
-ghost use Rattle.std.specs.Prelude.{◌≡◌};
+// What stands against an update: each condition that the table layer asks of its callers, tested.
+ghost use Rattle.std.specs.Prelude.{OnOk};
 ghost use Rattle.fields.specs.Table.{HasSlot, Openable, TabLive};
 ghost use Rattle.table_changes.specs.Seat.{Seated, LetSeat, Suffixed};
 
 use fields::layout::is_spent;
 use runs::dot::has_dot;
 use soundness::tab::is_live;
+use std::fmt;
 use table::find::is_let;
 use table::slots::live_tabs;
 use terms::name::is_name;
 
-// The place of a reason's word in what `change` prints.
-const UNSOUND: usize = 1;
-
-const SEAT: usize = 2;
-
-const FULL: usize = 3;
-
-const SPENT: usize = 4;
-
-const SUFFIX: usize = 5;
-
-pub const NONE: usize = 6;
-
-pub const WAITS: usize = 7;
-
-pub const WAITS_NOT: usize = 8;
-
-pub fn seat(t: &[u8], s: usize) -> usize
-    ensures { result ≡ 0 → Seated t.now s }
-{
-    if !soundness::sound(t) {
-        return UNSOUND;
-    }
-    if s < 1 {
-        return SEAT;
-    }
-    if 8 < s {
-        return SEAT;
-    }
-    0
+#[derive(Clone, Copy)]
+pub enum Why {
+    Unsound,
+    Seat,
+    Full,
+    Spent,
+    Suffix,
+    NoTab,
+    Waits,
+    WaitsNot,
 }
 
-pub fn let_seat(t: &[u8], s: usize) -> usize
-    ensures { result ≡ 0 → LetSeat t.now s }
+impl fmt::Display for Why {
+    fn fmt<W: fmt::Write>(&self, f: &mut fmt::Formatter<W>) -> fmt::Result {
+        f.write_str(match self {
+            Why::Unsound => "unsound",
+            Why::Seat => "seat",
+            Why::Full => "full",
+            Why::Spent => "spent",
+            Why::Suffix => "suffix",
+            Why::NoTab => "none",
+            Why::Waits => "waits",
+            Why::WaitsNot => "waits not",
+        })
+    }
+}
+
+pub fn seat(t: &[u8], s: usize) -> Result<(), Why>
+    ensures { OnOk result (Seated t.now s) }
 {
     if !soundness::sound(t) {
-        return UNSOUND;
+        return Err(Why::Unsound);
+    }
+    if !(1..=8).contains(&s) {
+        return Err(Why::Seat);
+    }
+    Ok(())
+}
+
+#[tactic(auto, using(fields::specs::Laws::Asked::let_seat, fields::specs::Laws::Table::table_facts))]
+pub fn let_seat(t: &[u8], s: usize) -> Result<(), Why>
+    ensures { OnOk result (LetSeat t.now s) }
+{
+    if !soundness::sound(t) {
+        return Err(Why::Unsound);
     }
     if !is_let(t, s) {
-        return SEAT;
+        return Err(Why::Seat);
     }
-    0
+    Ok(())
 }
 
-pub fn slot(t: &[u8], s: usize) -> usize
-    ensures { result ≡ 0 → HasSlot t.now s }
+pub fn slot(t: &[u8], s: usize) -> Result<(), Why>
+    ensures { OnOk result (HasSlot t.now s) }
 {
-    let why = seat(t, s);
-    if why != 0 {
-        return why;
-    }
+    seat(t, s)?;
     if 10 <= live_tabs(t, s) {
-        return FULL;
+        return Err(Why::Full);
     }
-    0
+    Ok(())
 }
 
-fn suffix(s: &[u8]) -> usize
-    ensures { result ≡ 0 → Suffixed s.now }
+fn suffix(s: &[u8]) -> Result<(), Why>
+    ensures { OnOk result (Suffixed s.now) }
 {
-    if s.len() < 3 {
-        return SUFFIX;
+    if (3..=64).contains(&s.len()) && is_name(s) && has_dot(s) {
+        Ok(())
+    } else {
+        Err(Why::Suffix)
     }
-    if 64 < s.len() {
-        return SUFFIX;
-    }
-    if !is_name(s) {
-        return SUFFIX;
-    }
-    if !has_dot(s) {
-        return SUFFIX;
-    }
-    0
 }
 
-pub fn open(t: &[u8], s: usize, name: &[u8]) -> usize
+#[tactic(auto, using(crate::proofs::Seats::seat_of, fields::specs::Laws::Asked::opens_left))]
+pub fn open(t: &[u8], s: usize, name: &[u8]) -> Result<(), Why>
     requires { LetSeat t.now s }
-    ensures { result ≡ 0 → Openable t.now s name.now }
+    ensures { OnOk result (Openable t.now s name.now) }
 {
     if 10 <= live_tabs(t, s) {
-        return FULL;
+        return Err(Why::Full);
     }
     if is_spent(t, s) {
-        return SPENT;
+        return Err(Why::Spent);
     }
     suffix(name)
 }
 
 // A selection, or a mark.
-pub fn tab(t: &[u8], s: usize, k: usize) -> usize
+#[tactic(auto, using(crate::proofs::Seats::tab_of))]
+pub fn tab(t: &[u8], s: usize, k: usize) -> Result<(), Why>
     requires { LetSeat t.now s }
-    ensures { result ≡ 0 → TabLive t.now s k }
+    ensures { OnOk result (TabLive t.now s k) }
 {
-    if k < 1 {
-        return NONE;
+    if (1..=10).contains(&k) && is_live(t, s, k) {
+        Ok(())
+    } else {
+        Err(Why::NoTab)
     }
-    if 10 < k {
-        return NONE;
-    }
-    if !is_live(t, s, k) {
-        return NONE;
-    }
-    0
 }

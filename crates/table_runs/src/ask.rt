@@ -8,68 +8,58 @@ use runs::number::number_at;
 use runs::parts::word;
 use runs::{put, say};
 use table_changes::seat;
-use table_changes::shape::{COUNT, CUT, OWNER, PROCESS, ROW, SHOW, SLOT, SOUND, TAB, WITH};
+use table_changes::shape::Question;
 
 // Whether the first n bytes of the table would be sound, or all of it and a zero byte more.
 fn cut(rt: &impl Print, t: &[u8], l: &[u8], n: usize) {
-    if 6153 < n {
-        say::bad(rt, l);
-        return;
-    }
     let mut room = [0u8; 6153];
     put(&mut room, 0, t);
-    say::text(rt, l);
-    say::test(rt, b" sound", soundness::sound(&room[0..n]));
+    if n <= room.len() {
+        say::text(rt, l);
+        say::test(rt, b" sound", soundness::sound(&room[..n]));
+    } else {
+        say::bad(rt, l);
+    }
 }
 
 fn say_place(rt: &impl Print, p: Option<Place>, label: &[u8]) {
     match p {
-        Some(Place { seat, slot }) => {
-            say::text(rt, label);
-            say::spaced(rt, seat);
-            say::spaced(rt, slot);
-            say::end(rt);
-        }
-        None => say::told(rt, label, b"nowhere"),
+        Some(Place { seat, slot }) => say::told(rt, label, format_args!("{seat} {slot}")),
+        None => say::told(rt, label, "nowhere"),
     }
 }
 
-fn with(rt: &impl Print, t: &[u8], l: &[u8], o: usize)
+fn with(rt: &impl Print, t: &[u8], l: &[u8], owner: usize)
     requires { length t.now ≡ table_bytes }
 {
-    if 255 < o {
-        say::bad(rt, l);
-        return;
+    match u8::try_from(owner) {
+        Ok(o) => say::told(rt, word(l, 0), table::find::process_with(t, o, word(l, 2))),
+        Err(_) => say::bad(rt, l),
     }
-    say::count(
-        rt,
-        word(l, 0),
-        table::find::process_with(t, o as u8, word(l, 2)),
-    );
 }
 
-fn answer(rt: &impl Print, t: &[u8], l: &[u8], c: usize)
+fn answer(rt: &impl Print, t: &[u8], l: &[u8], question: Question)
     requires { length t.now ≡ table_bytes }
 {
     let label = word(l, 0);
     let n = number_at(l, 1);
-    match c {
-        SOUND => say::test(rt, label, soundness::sound(t)),
-        CUT => cut(rt, t, l, n),
-        SHOW => show(rt, t, l, n, number_at(l, 2)),
-        TAB => say_place(rt, table::find::tab_of(t, n), label),
-        PROCESS => say::count(rt, label, table::find::process_of(t, n)),
-        WITH => with(rt, t, l, n),
-        ROW => say::count(rt, label, table::find::free_process(t)),
-        SLOT => seat::slot(rt, t, n, label),
-        COUNT => seat::count(rt, t, n, label),
-        OWNER => seat::owner(rt, t, n, label),
-        _ => seat::name(rt, t, n, label),
+    match question {
+        Question::Sound => say::test(rt, label, soundness::sound(t)),
+        Question::Cut => cut(rt, t, l, n),
+        Question::Show => show(rt, t, l, n, number_at(l, 2)),
+        Question::Tab => say_place(rt, table::find::tab_of(t, n), label),
+        Question::Process => say::told(rt, label, table::find::process_of(t, n)),
+        Question::With => with(rt, t, l, n),
+        Question::Row => say::told(rt, label, table::find::free_process(t)),
+        Question::Slot => seat::slot(rt, t, n, label),
+        Question::Count => seat::count(rt, t, n, label),
+        Question::Owner => seat::owner(rt, t, n, label),
+        Question::Name => seat::name(rt, t, n, label),
     }
 }
 
-pub fn ask(rt: &impl Print, t: &[u8], l: &[u8], c: usize) {
+pub fn ask(rt: &impl Print, t: &[u8], l: &[u8], question: Question) {
     if fields::layout::is_long(t) {
-        answer(rt, t, l, c);
+        answer(rt, t, l, question);
     }
 }

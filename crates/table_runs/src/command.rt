@@ -1,28 +1,20 @@
-// The script: its lines, one by one, and which command each is.
+// What a line of the script asks, of one table and the one kept.
 use crate::ask::ask;
 use crate::poke::poke;
-use runs::parts::{count, part};
+use runs::script::command_in;
 use table_changes::change;
-use table_changes::shape::{BACK, KEEP, NAME, POKE, SOUND, command_of};
+use table_changes::shape::{Command, SHAPES};
 
-fn obey(rt: &impl Print, t: &mut [u8; 6152], kept: &mut [u8; 6152], l: &[u8]) {
-    let c = command_of(rt, l);
-    match c {
-        0 => {}
-        KEEP => *kept = *t,
-        BACK => *t = *kept,
-        POKE => poke(rt, t, l),
-        SOUND..=NAME => ask(rt, t, l, c),
-        _ => change::run(rt, t, l, c),
-    }
-}
-
-// Each line of the script in turn, on one table and the one kept.
-pub fn run(rt: &impl Print, script: &[u8], t: &mut [u8; 6152], kept: &mut [u8; 6152]) {
-    let lines = count(script, b'\n');
-    let mut k = 0;
-    while k < lines {
-        obey(rt, t, kept, part(script, b'\n', k));
-        k += 1;
+pub fn obey(rt: &impl Print, t: &mut [u8; 6152], kept: &mut [u8; 6152], l: &[u8]) {
+    let Some(command) = command_in(rt, l, &SHAPES) else {
+        return;
+    };
+    match command {
+        Command::Ask(question) => ask(rt, t, l, question),
+        Command::Keep => *kept = *t,
+        Command::Back => *t = *kept,
+        Command::Fresh => change::fresh(rt, t, l),
+        Command::Poke => poke(rt, t, l),
+        Command::Change(update) => change::run(rt, t, l, update),
     }
 }

@@ -6,10 +6,7 @@ mod command;
 mod poke;
 
 fn main(rt: HostRuntime) {
-    let mut script = runs::script::room();
-    let n = runs::script::read(&rt, &mut script);
     let mut t = [0u8; 6152];
     let mut kept = [0u8; 6152];
-    command::run(&rt, &script[..n], &mut t, &mut kept);
-    runs::script::end(&rt);
+    runs::script::run(&rt, |l| command::obey(&rt, &mut t, &mut kept, l));
 }
