@@ -1,32 +1,31 @@
 // One call of the kernel, with a look at the memory that it was lent.
-use crate::frame::put_event;
-use crate::shape::{CLOSING, ROUNDS, START};
+use crate::frame::Event;
+use crate::shape::Call;
 use frames::answer::{bytes_in, number_in};
 use runs::changes::count;
-use runs::number::at_most;
-use runs::parts::span;
 
 // What the room holds before a call.
 const FILL: u8 = 165;
 
-// A byte more than a table has, and some more than an output room needs.
-pub type Table = [u8; 6153];
-
-pub type Room = [u8; 4200];
-
-// How much of the memory is lent to a call, and how many events there were since the last start.
-#[derive(Drop)]
+// How much of the memory is lent to a call.
 #[derive(Clone, Copy)]
 pub struct Lent {
     pub table: usize,
-    pub room: usize,
     pub book: usize,
-    pub events: usize,
+    pub room: usize,
+}
+
+// The memory: a byte more than a table has, a book, and some more than an output room needs.
+#[derive(Drop)]
+pub struct Memory {
+    pub table: [u8; 6153],
+    pub book: [u8; 4096],
+    pub room: [u8; 4200],
+    pub lent: Lent,
 }
 
 // What came of a call: its answer, how many bytes of the table it changed, and whether the room past the bytes written
 // stayed.
-#[derive(Drop)]
 #[derive(Clone, Copy)]
 pub struct Outcome {
     pub answer: u64,
@@ -34,67 +33,85 @@ pub struct Outcome {
     pub stayed: bool,
 }
 
-// The room from a place on is as it was filled.
-fn is_filled(room: &[u8], from: usize) -> bool {
-    let filled = [FILL; 4200];
-    count(span(&filled, from, 4200), span(room, from, 4200)) == 0
+impl Outcome {
+    pub fn is_served(&self) -> bool {
+        number_in(self.answer) == 0
+    }
+
+    // No byte changed that must stay.
+    pub fn is_kept(&self) -> bool {
+        self.stayed && (self.is_served() || self.changed == 0)
+    }
 }
 
 // The kernel's call, with just what is lent.
-fn ask(table: &mut [u8], book: &[u8], event: &[u8], room: &mut [u8], c: usize, lent: Lent) -> u64 {
-    let t = at_most(table.len(), lent.table);
-    let r = at_most(room.len(), lent.room);
-    match c {
-        START => kernel::stewlattice_start(&mut table[0..t], book),
-        _ => kernel::stewlattice_step(&mut table[0..t], book, event, &mut room[0..r]),
-    }
-}
-
-// The call that a line asks for.
-pub fn call(
-    table: &mut Table,
-    book: &[u8],
-    room: &mut Room,
-    l: &[u8],
-    c: usize,
-    lent: Lent,
-) -> Outcome {
-    let mut event = [0u8; 8192];
-    let len = put_event(&mut event, l, c);
-    let old = *table;
-    *room = [FILL; 4200];
-    let answer = ask(table, book, &event[0..len], room, c, lent);
-    Outcome {
-        answer,
-        changed: count(&old, table),
-        stayed: is_filled(room, bytes_in(answer)),
-    }
-}
-
-// The call is served, and writes nowhere else.
-fn serves(table: &mut Table, book: &[u8], room: &mut Room, l: &[u8], c: usize, lent: Lent) -> bool {
-    let o = call(table, book, room, l, c, lent);
-    number_in(o.answer) == 0 && o.stayed
-}
-
-// Two events in turn, n times over; how many times they were not well served.
-pub fn rounds(
-    table: &mut Table,
-    book: &[u8],
-    room: &mut Room,
-    l: &[u8],
-    n: usize,
-    lent: Lent,
-) -> usize {
-    let mut bad: usize = 0;
-    let mut k: usize = 0;
-    while k < n {
-        let opened = serves(table, book, room, l, ROUNDS, lent);
-        let closed = serves(table, book, room, l, CLOSING, lent);
-        if !opened || !closed {
-            bad = bad.wrapping_add(1);
+fn ask(table: &mut [u8], book: &[u8], room: &mut [u8], lent: Lent, l: &[u8], call: Call) -> u64 {
+    let t = lent.table.min(table.len());
+    let b = lent.book.min(book.len());
+    let r = lent.room.min(room.len());
+    match call {
+        Call::Start => kernel::stewlattice_start(&mut table[..t], &book[..b]),
+        Call::Step(event) => {
+            let mut bytes = [0u8; 8192];
+            let n = event.put(&mut bytes, l);
+            kernel::stewlattice_step(&mut table[..t], &book[..b], &bytes[..n], &mut room[..r])
         }
-        k += 1;
     }
-    bad
+}
+
+impl Memory {
+    pub fn new() -> Memory {
+        Memory {
+            table: [0; 6153],
+            book: [0; 4096],
+            room: [0; 4200],
+            lent: Lent {
+                table: 6152,
+                book: 0,
+                room: 4106,
+            },
+        }
+    }
+
+    // The room from a place on is as it was filled.
+    fn is_filled(&self, from: usize) -> bool {
+        self.room.iter().skip(from).all(|x| *x == FILL)
+    }
+
+    // The call that a line asks for.
+    pub fn call(&mut self, l: &[u8], call: Call) -> Outcome {
+        let old = self.table;
+        self.room = [FILL; 4200];
+        let lent = self.lent;
+        let Memory {
+            table,
+            book,
+            room,
+            ..
+        } = self;
+        let answer = ask(table, book, room, lent, l, call);
+        Outcome {
+            answer,
+            changed: count(&old, &self.table),
+            stayed: self.is_filled(bytes_in(answer)),
+        }
+    }
+
+    // The event is served, and writes nowhere else.
+    fn serves(&mut self, l: &[u8], event: Event) -> bool {
+        let o = self.call(l, Call::Step(event));
+        o.is_served() && o.stayed
+    }
+
+    // Two events in turn, and whether both were well served.
+    fn round(&mut self, l: &[u8]) -> bool {
+        let opened = self.serves(l, Event::Opening);
+        let closed = self.serves(l, Event::Closing);
+        opened && closed
+    }
+
+    // So many rounds; how many of them were not well served.
+    pub fn rounds(&mut self, l: &[u8], n: usize) -> usize {
+        (0..n).filter(|_| !self.round(l)).count()
+    }
 }

@@ -1,29 +1,39 @@
 // The commands, by their shapes.
-use runs::script::command_in;
+use crate::frame::Event;
+use runs::shape::{Kind, Shape};
 
-// Each command is its place in the list of `command_of`; 0 is none.
-pub const START: usize = 1;
-
-pub const TABLE: usize = 2;
-
-pub const ROOM: usize = 3;
-
-pub const BOOK: usize = 4;
-
-pub const POKE: usize = 5;
-
-pub const ROUNDS: usize = 6;
-
-pub const EVENT: usize = 8;
-
-// No command: the second event of a round.
-pub const CLOSING: usize = 9;
-
-pub fn command_of(rt: &impl Print, l: &[u8]) -> usize {
-    command_in(
-        rt,
-        l,
-        b"start,table n,room n,book p,poke np,rounds nnp,raw p,event nnnp",
-        8,
-    )
+// A call of the kernel.
+#[derive(Clone, Copy)]
+pub enum Call {
+    Start,
+    Step(Event),
 }
+
+#[derive(Clone, Copy)]
+pub enum Command {
+    Table,
+    Room,
+    Book,
+    Poke,
+    Rounds,
+    Ask(Call),
+}
+
+pub const SHAPES: [Shape<Command>; 8] = [
+    ("start", &[], Command::Ask(Call::Start)),
+    ("table", &[Kind::Number], Command::Table),
+    ("room", &[Kind::Number], Command::Room),
+    ("book", &[Kind::Pieces], Command::Book),
+    ("poke", &[Kind::Number, Kind::Pieces], Command::Poke),
+    (
+        "rounds",
+        &[Kind::Number, Kind::Number, Kind::Pieces],
+        Command::Rounds,
+    ),
+    ("raw", &[Kind::Pieces], Command::Ask(Call::Step(Event::Raw))),
+    (
+        "event",
+        &[Kind::Number, Kind::Number, Kind::Number, Kind::Pieces],
+        Command::Ask(Call::Step(Event::Framed)),
+    ),
+];

@@ -1,85 +1,50 @@
-// The script: its lines, one by one, and which command each is.
+// What a line of the script asks of the kernel, or lends to it.
 use crate::log;
-use kernel_calls::call::{Lent, Room, Table, call, rounds};
-use kernel_calls::shape::{BOOK, POKE, ROOM, ROUNDS, START, TABLE, command_of};
-use runs::number::{at_most, number_at};
-use runs::parts::{count, first, part};
+use kernel_calls::call::Memory;
+use kernel_calls::shape::{Call, Command, SHAPES};
+use runs::number::number_at;
 use runs::pieces::put_words;
 use runs::say;
+use runs::script::command_in;
 
-// The calls that a line asks for, and how many events there were since the last start.
-fn ask(
-    rt: &impl Print,
-    table: &mut Table,
-    book: &[u8],
-    room: &mut Room,
-    l: &[u8],
-    c: usize,
-    lent: Lent,
-) -> usize {
-    if c == ROUNDS {
-        let n = number_at(l, 1);
-        log::say_rounds(rt, n, rounds(table, book, room, l, n, lent));
-        return lent.events.wrapping_add(n.wrapping_add(n));
+// The call that a line asks for, and how many events there were since the last start.
+fn ask(rt: &impl Print, memory: &mut Memory, events: usize, l: &[u8], call: Call) -> usize {
+    let o = memory.call(l, call);
+    match call {
+        Call::Start => {
+            log::say_start(rt, o);
+            0
+        }
+        Call::Step(_) => {
+            let n = events.wrapping_add(1);
+            log::say_step(rt, n, o, &memory.room);
+            n
+        }
     }
-    let o = call(table, book, room, l, c, lent);
-    if c == START {
-        log::say_start(rt, o);
-        return 0;
-    }
-    let n = lent.events.wrapping_add(1);
-    log::say_step(rt, n, o, room);
-    n
 }
 
-fn poke(table: &mut Table, l: &[u8]) {
-    let at = at_most(6153, number_at(l, 1));
-    put_words(table, at, l, 2);
+fn rounds(rt: &impl Print, memory: &mut Memory, events: usize, l: &[u8]) -> usize {
+    let n = number_at(l, 1);
+    let bad = memory.rounds(l, n);
+    let _ = println!(rt; "  {n} rounds, {bad} bad");
+    events.wrapping_add(n.wrapping_add(n))
 }
 
-// The line's command, and what is lent after it.
-fn obey(
-    rt: &impl Print,
-    table: &mut Table,
-    book: &mut [u8; 4096],
-    room: &mut Room,
-    l: &[u8],
-    lent: Lent,
-) -> Lent {
-    let mut next = lent;
-    let c = command_of(rt, l);
-    if c == 0 {
-        return next;
-    }
-    say::line(rt, l);
-    match c {
-        TABLE => next.table = number_at(l, 1),
-        ROOM => next.room = number_at(l, 1),
-        BOOK => next.book = put_words(book, 0, l, 1),
-        POKE => poke(table, l),
-        _ => next.events = ask(rt, table, first(book, lent.book), room, l, c, lent),
-    }
-    next
-}
-
-// Each line of the script in turn.
-pub fn run(
-    rt: &impl Print,
-    script: &[u8],
-    table: &mut Table,
-    book: &mut [u8; 4096],
-    room: &mut Room,
-) {
-    let mut lent = Lent {
-        table: 6152,
-        room: 4106,
-        book: 0,
-        events: 0,
+// The line's command, and how many events there were then since the last start.
+pub fn obey(rt: &impl Print, memory: &mut Memory, events: usize, l: &[u8]) -> usize {
+    let Some(command) = command_in(rt, l, &SHAPES) else {
+        return events;
     };
-    let lines = count(script, b'\n');
-    let mut k = 0;
-    while k < lines {
-        lent = obey(rt, table, book, room, part(script, b'\n', k), lent);
-        k += 1;
+    say::line(rt, l);
+    match command {
+        Command::Table => memory.lent.table = number_at(l, 1),
+        Command::Room => memory.lent.room = number_at(l, 1),
+        Command::Book => memory.lent.book = put_words(&mut memory.book, 0, l, 1),
+        Command::Poke => {
+            put_words(&mut memory.table, number_at(l, 1).min(6153), l, 2);
+        }
+        Command::Rounds => return rounds(rt, memory, events, l),
+        Command::Ask(call) => return ask(rt, memory, events, l, call),
     }
+    events
 }

@@ -4,12 +4,10 @@
 mod command;
 mod log;
 
+use kernel_calls::call::Memory;
+
 fn main(rt: HostRuntime) {
-    let mut script = runs::script::room();
-    let n = runs::script::read(&rt, &mut script);
-    let mut table = [0u8; 6153];
-    let mut book = [0u8; 4096];
-    let mut room = [0u8; 4200];
-    command::run(&rt, &script[..n], &mut table, &mut book, &mut room);
-    runs::script::end(&rt);
+    let mut memory = Memory::new();
+    let mut events = 0;
+    runs::script::run(&rt, |l| events = command::obey(&rt, &mut memory, events, l));
 }
