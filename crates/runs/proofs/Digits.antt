@@ -1,5 +1,5 @@
 -- Laws of a word's digits: one more, and what is no number stays none. Assumes nothing.
-use Rattle.std.proofs.Common.{◌≡◌, ℕ, zero, suc, ◌+◌, ◌-◌, ◌≤◌, true, false, ◌==◌, Option, Some, None, List, length, get_or, refl, add-one, arith}
+use Rattle.std.proofs.Common.{◌≡◌, ℕ, zero, suc, ◌+◌, ◌-◌, ◌≤◌, true, false, ◌==◌, Some, None, List, length, get_or, refl, add-one, arith}
 use Rattle.runs.specs.Decimal.{with_digit, next, digits, decimal}
 
 pub digits_none : (w : List ℕ) → digits w 0 ≡ Some 0

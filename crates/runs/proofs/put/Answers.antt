@@ -1,5 +1,5 @@
 -- Where there is no room the stores that are left change nothing. Assumes nothing.
-use Rattle.std.proofs.Common.{◌≡◌, ◌+◌, ◌-◌, take, sym, ◌∙◌, arith}
+use Rattle.std.proofs.Common.{◌≡◌, ◌+◌, ◌-◌, sym, arith}
 use Rattle.runs.proofs.Stores.{sets_out, sets_room}
 use Rattle.runs.proofs.put.Goals as goal
 
