@@ -8,26 +8,20 @@ mod host;
 mod run;
 mod turn;
 
-ghost use Rattle.std.specs.Prelude.{◌≡◌, length};
-
+use reader::argument::answered;
 use reader::book::{read_book, say_unsound};
-
-// Twice what the longest host takes, so that a read brings much even where one is held in part.
-fn buffer() -> [u8; 131072]
-    ensures { 131072 ≡ length result }
-{
-    [0; 131072]
-}
+use reader::room::zeros;
 
 fn main(rt: HostRuntime) {
-    let who = b"asksuffix";
-    if help::answered(&rt, who) {
+    let who = "asksuffix";
+    if answered(&rt, who, help::HELP) {
         return;
     }
     // a byte more than a book may have, so that one too long is seen to be
-    let mut book = [0u8; 32769];
-    let mut buf = buffer();
-    let mut out = [0u8; 131];
+    let mut book = zeros::<32769>();
+    // twice what the longest host takes, so that a read brings much even where one is held in part
+    let mut buf = zeros::<131072>();
+    let mut out = zeros::<131>();
     let n = read_book(&rt, &mut book, who);
     if !names::book::is_sound(&book[..n]) {
         say_unsound(&rt, &book[..n], who);

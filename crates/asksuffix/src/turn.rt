@@ -16,11 +16,10 @@ fn answer(held: &[u8], book: &[u8], out: &mut [u8], p: Place) -> Place
     let filled = put_answer(out, &held[2..size], book);
     Place {
         place: p.place + size,
-        have: p.have,
         number: p.number + 1,
-        filled: filled,
-        ended: p.ended,
+        filled,
         done: false,
+        ..p
     }
 }
 
@@ -29,12 +28,9 @@ fn stop(p: Place) -> Place
     ensures { result ≡ last p }
 {
     Place {
-        place: p.place,
-        have: p.have,
-        number: p.number,
         filled: 0,
-        ended: p.ended,
         done: true,
+        ..p
     }
 }
 
@@ -44,15 +40,14 @@ pub fn turn(
     book: &[u8],
     out: &mut [u8],
     p: Place,
-    who: &[u8],
+    who: &str,
 ) -> Place
     requires { Sound p (length buf.old) × (AskBuffers buf.old out.old × Countable p) }
     ensures { Turn buf.old book.now out.old p buf.new out.new result }
 {
-    let place = p.place;
-    let have = p.have;
-    if is_whole(&buf[place..have]) {
-        return answer(&buf[place..have], book, out, p);
+    let held = p.held(buf);
+    if is_whole(held) {
+        return answer(held, book, out, p);
     }
     if p.ended {
         return stop(p);

@@ -1,10 +1,6 @@
-// What is said to whoever starts the program with an argument: its use, in a screenful.
+// What is said to whoever asks for --help: the program's use, in a screenful.
 
-use std::rt::Env;
-
-// Whether there was an argument, which is all that is answered then.
-pub fn answered(rt: &(impl Print + Eprint + Env), who: &[u8]) -> bool {
-    let text = b"desklog: what the kernel makes of a recording, line by line
+pub const HELP: &str = "desklog: what the kernel makes of a recording, line by line
 
 use: desklog < EVENTS > LOG
      desklog --version
@@ -29,5 +25,3 @@ A missing or unreadable book.bin is read as empty; an empty book, and one of mor
 32768 bytes, is unsound. Standard error says why a start was refused, and what could not
 be read or written.
 ";
-    reader::argument::answered(rt, who, text)
-}

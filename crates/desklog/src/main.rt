@@ -3,35 +3,22 @@
 
 mod help;
 
-ghost use Rattle.std.specs.Prelude.{◌≡◌, length};
-
 use logging::run::log;
+use reader::argument::answered;
 use reader::book::read_book;
-
-// Room for the text of a turn.
-fn room() -> [u8; 524288]
-    ensures { 524288 ≡ length result }
-{
-    [0; 524288]
-}
-
-// What a read can bring.
-fn buffer() -> [u8; 65536]
-    ensures { 65536 ≡ length result }
-{
-    [0; 65536]
-}
+use reader::room::zeros;
 
 fn main(rt: HostRuntime) {
-    let who = b"desklog";
-    if help::answered(&rt, who) {
+    let who = "desklog";
+    if answered(&rt, who, help::HELP) {
         return;
     }
     // a byte more than a book may have, so that one too long is seen to be
-    let mut book = [0u8; 32769];
-    let mut table = [0u8; 6152];
-    let mut buf = buffer();
-    let mut out = room();
+    let mut book = zeros::<32769>();
+    let mut table = zeros::<6152>();
+    // what a read can bring, and room for the text of a turn
+    let mut buf = zeros::<65536>();
+    let mut out = zeros::<524288>();
     let n = read_book(&rt, &mut book, who);
     log(&rt, &mut buf, &mut table, &book[..n], &mut out, who);
 }

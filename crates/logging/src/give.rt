@@ -28,8 +28,5 @@ pub fn give_ready(
 {
     let ready = count_ready(held, ended, MOST);
     let served = serve(held, table, book, out, number, ready.count);
-    Batch {
-        ready: ready,
-        served: served,
-    }
+    Batch { ready, served }
 }

@@ -11,16 +11,13 @@ fn moved(p: Place, given: Batch) -> Place
     requires { p.place + given.served.cursor.place < 18446744073709551616 }
     ensures { result ≡ past p given }
 {
-    let ready = given.ready;
-    let served = given.served;
-    let cursor = served.cursor;
+    let cursor = given.served.cursor;
     Place {
         place: p.place + cursor.place,
-        have: p.have,
         number: cursor.number,
-        filled: served.filled,
-        ended: p.ended,
-        done: ready.last,
+        filled: given.served.filled,
+        done: given.ready.last,
+        ..p
     }
 }
 
@@ -31,20 +28,14 @@ pub fn turn(
     book: &[u8],
     out: &mut [u8],
     p: Place,
-    who: &[u8],
+    who: &str,
 ) -> Place
     requires { Sound p (length buf.old) × Ample p buf.old out.old }
     ensures { Turn buf.old table.old book.now out.old p buf.new table.new out.new result }
 {
-    let place = p.place;
-    let have = p.have;
-    let given = give_ready(&buf[place..have], table, book, out, p.number, p.ended);
-    let ready = given.ready;
-    if ready.count == 0 {
-        if !ready.last {
-            return refill(rt, buf, p, who);
-        }
-        return moved(p, given);
+    let given = give_ready(p.held(buf), table, book, out, p.number, p.ended);
+    if given.ready.count == 0 && !given.ready.last {
+        return refill(rt, buf, p, who);
     }
     moved(p, given)
 }

@@ -9,26 +9,17 @@ pub fn shift(buf: &mut [u8], place: usize, have: usize)
     requires { (place ≤ have) × (have ≤ length buf.old) }
     ensures { take (have - place) buf.new ≡ take (have - place) (drop place buf.old) }
 {
-    let n = have - place;
-    let mut i = 0;
-    while i < n {
-        buf[i] = buf[place + i];
-        i += 1;
-    }
+    buf.copy_within(place..have, 0);
 }
 
 // Reads once behind the first bytes, and gives how many came: none at the end of the stream, or where the read fails, which
 // standard error is told.
-pub fn fill(rt: &(impl Input + Eprint), buf: &mut [u8], have: usize, who: &[u8]) -> usize
+pub fn fill(rt: &(impl Input + Eprint), buf: &mut [u8], have: usize, who: &str) -> usize
     requires { have ≤ length buf.old }
     ensures { (have + result ≤ length buf.old) × (take have buf.new ≡ take have buf.old) }
 {
-    let mut input = rt.reader();
-    match input.read(&mut buf[have..]) {
-        Ok(got) => got,
-        Err(why) => {
-            say_failed(rt, who, b"standard input cannot be read", &why);
-            0
-        }
-    }
+    rt.reader()
+        .read(&mut buf[have..])
+        .inspect_err(|why| say_failed(rt, who, "standard input cannot be read", why))
+        .unwrap_or(0)
 }

@@ -5,8 +5,9 @@
 pub mod argument;
 pub mod book;
 mod buffer;
+pub mod front;
 pub mod out;
 pub mod place;
+pub mod room;
 pub mod say;
 mod version;
-mod words;

@@ -82,27 +82,29 @@ module _ {b buf₀ o₀ : List ℕ} {cs : List (List ℕ)} {x buf o : List ℕ} 
 
 -- ---- the loop
 
-pub record Running (b buf₀ o₀ buf o : List ℕ) (p : Place) (left : ℕ) : Type 0 where
+-- so many turns were made
+pub record Running (b buf₀ o₀ buf o : List ℕ) (p : Place) (made : ℕ) : Type 0 where
   pub chunks : List (List ℕ)
   pub text : List ℕ
   pub under : Under b buf₀ o₀ chunks text buf o p
-  pub some : 0 < turn_count under.way + left
-  pub counted : p.number + left ≤ turns
+  pub some : made ≡ turn_count under.way
+  pub counted : p.number ≤ made
 
-pub running_first : (b buf o : List ℕ) (left : ℕ) → 0 < left → left ≤ turns → Running b buf o buf o outset left
-running_first b buf o left l h =
-    record { chunks = _; text = _; under = under_first b buf o; some = omega arith; counted = omega arith }
+pub running_first : (b buf o : List ℕ) → Running b buf o buf o outset 0
+unfolding turn_count under_first
+running_first b buf o =
+    record { chunks = _; text = _; under = under_first b buf o; some = refl; counted = omega arith }
 
-module _ {b buf₀ o₀ buf o : List ℕ} {p : Place} {left : ℕ} (r : Running b buf₀ o₀ buf o p left) where
-  pub running_next : {buf' o' : List ℕ} {p' : Place} → AskBuffers buf₀ o₀ → 0 < left → Turn buf b o p buf' o' p'
-      → length buf' ≡ length buf → length o' ≡ length o → p'.done ≡ false → Running b buf₀ o₀ buf' o' p' (left - 1)
+module _ {b buf₀ o₀ buf o : List ℕ} {p : Place} {made : ℕ} (r : Running b buf₀ o₀ buf o p made) where
+  pub running_next : {buf' o' : List ℕ} {p' : Place} → AskBuffers buf₀ o₀ → Turn buf b o p buf' o' p'
+      → length buf' ≡ length buf → length o' ≡ length o → p'.done ≡ false → Running b buf₀ o₀ buf' o' p' (made + 1)
   unfolding turn_count under_next
-  running_next h l w k m on =
+  running_next h w k m on =
       record {
         chunks = _;
         text = _;
         under = under_next r.under h w k m on;
-        some = omega arith;
+        some = omega (arith, r.some);
         counted = omega (arith, r.counted, (under_turn r.under h w).few);
       }
 
@@ -112,5 +114,5 @@ module _ {b buf₀ o₀ buf o : List ℕ} {p : Place} {left : ℕ} (r : Running 
   ran_last w =
       record { chunks = _; text = _; place = _; turns = more r.under.way r.under.on w; some = omega arith }
 
-  pub ran_all : left ≡ 0 → AskRan b buf₀ o₀ buf o
+  pub ran_all : 0 < made → AskRan b buf₀ o₀ buf o
   ran_all e = record { chunks = _; text = _; place = _; turns = r.under.way; some = omega (arith, r.some) }

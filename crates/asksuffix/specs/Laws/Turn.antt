@@ -43,27 +43,23 @@ pub last_is : (p : Place)
 unfolding last
 last_is p = refl
 
--- ---- from what is lent of the buffer
+-- ---- from what is held
 
 module _ (buf b o : List ℕ) (p : Place) where
-  abbrev lent : List ℕ
-  lent = take (p.have - p.place) (drop p.place buf)
-
   pub turn_given : {r : Bool} → Sound p (length buf) → length buf < 18446744073709551616 → most_text ≤ length o → Countable p
-      → r ≡ host_whole lent → r ≡ true → Answerable lent o p
-  unfolding held
+      → r ≡ host_whole (held buf p) → r ≡ true → Answerable (held buf p) o p
   turn_given s fits roomy counted e h =
       let a = s.ahead in
       let i = s.inside in
       let l = length_held buf p s in
       record { whole = sym e ∙ h; inside = omega arith; roomy = roomy; counted = counted }
 
-  pub host_answered : {o' : List ℕ} {p' : Place} → Sound p (length buf) → host_whole lent ≡ true → Gave lent b o p o' p'
+  pub host_answered : {o' : List ℕ} {p' : Place} → Sound p (length buf) → host_whole (held buf p) ≡ true → Gave (held buf p) b o p o' p'
       → HostAnswered buf b o p buf o' p'
-  unfolding held past
+  unfolding past
   host_answered {p' = p'} s whole g =
-      let k = host_bytes lent in
-      let inside = (whole_has lent whole).present in
+      let k = host_bytes (held buf p) in
+      let inside = (whole_has (held buf p) whole).present in
       let place= = ap (λ (q : Place). q.place) g.moved in
       let have= = ap (λ (q : Place). q.have) g.moved in
       record {
@@ -74,16 +70,14 @@ module _ (buf b o : List ℕ) (p : Place) where
         rest = held_past buf p p' k s inside place= have=;
       }
 
-  pub turn_answered : {r : Bool} {o' : List ℕ} {p' : Place} → Sound p (length buf) → r ≡ host_whole lent → r ≡ true
-      → Gave lent b o p o' p' → Turn buf b o p buf o' p'
+  pub turn_answered : {r : Bool} {o' : List ℕ} {p' : Place} → Sound p (length buf) → r ≡ host_whole (held buf p) → r ≡ true
+      → Gave (held buf p) b o p o' p' → Turn buf b o p buf o' p'
   turn_answered s e h g = answered (host_answered s (sym e ∙ h) g)
 
-  pub turn_stopped : {r : Bool} {p' : Place} → r ≡ host_whole lent → r ≡ false → p.ended ≡ true → p' ≡ last p
+  pub turn_stopped : {r : Bool} {p' : Place} → r ≡ host_whole (held buf p) → r ≡ false → p.ended ≡ true → p' ≡ last p
       → Turn buf b o p buf o p'
-  unfolding held
   turn_stopped e h f m = stopped (record { cut = sym e ∙ h; off = f; same = refl; room = refl; moved = m })
 
-  pub turn_read : {r : Bool} {buf' : List ℕ} {p' : Place} → r ≡ host_whole lent → (r ≡ false → length lent < most_bytes)
+  pub turn_read : {r : Bool} {buf' : List ℕ} {p' : Place} → r ≡ host_whole (held buf p) → (r ≡ false → length (held buf p) < most_bytes)
       → r ≡ false → p.ended ≡ false → Filled buf p buf' p' → Turn buf b o p buf' o p'
-  unfolding held
   turn_read e s h f w = read (record { cut = sym e ∙ h; on = f; short = s h; room = refl; filled = w })

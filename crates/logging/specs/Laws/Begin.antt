@@ -1,5 +1,5 @@
 -- How each exit of the start comes to what its contract says. Assumes nothing.
-use Rattle.std.specs.Prelude.{ℕ, ◌≤◌, ◌≡◌, Bool, cond, ◌≢◌, take, eqb}
+use Rattle.std.specs.Prelude.{ℕ, ◌≤◌, ◌<◌, ◌≡◌, Bool, cond, ◌≢◌, take, eqb}
 use Rattle.std.proofs.Math.Path.{sym, ap}
 use Rattle.std.proofs.Common.{ap₂, ◌∙◌, arith, eqb-true, eq-eqb, ne_eqb}
 use mathlib.Core.List.{List, []}
@@ -36,6 +36,10 @@ module _ (t b o : List ℕ) {t' : List ℕ} {r n : ℕ} (w : Started (start_of t
         text = v.bytes ∙ ap (over o 0) e;
         next = v.next ∙ zero-add (length (start_line n)) ∙ ap length e;
       }
+
+-- a line has a byte at least
+pub line_some : (n : ℕ) {k : ℕ} {o o' : List ℕ} → Wrote o 0 (start_line n) o' k → 0 < k
+line_some n w = omega (arith, w.next, start_some n)
 
 -- the line has room where a start's has
 pub begun_fits : {t b o t' o' : List ℕ} {r : ℕ} → Begun t b o t' o' r → 23 ≤ length o → r ≤ length o

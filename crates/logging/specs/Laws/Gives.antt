@@ -40,13 +40,13 @@ may_give buf t b o p {last} m s roomy e some =
     } in
     let w : Gave h t b o p.number p.ended (table_after t b (taken m h)) (over o 0 x) g =
     record { ready= = sym e; many = record { table = refl; text = refl; next = refl; place = refl; number = refl } } in
-    let turn = turn_gave buf p w s roomy some refl in
+    let turn = turn_gave buf p refl w s roomy some refl in
     record {
       t' = table_after t b (taken m h);
       o' = over o 0 x;
       p' = past p g;
       turn = turn;
-      rest = rest_is buf p w s;
+      rest = rest_is buf p refl w s;
       ended= = refl;
       done= = refl;
       as_roomy = length_over o 0 x (omega (arith, (turn_after turn).fits));

@@ -1,6 +1,6 @@
 -- What the loop of the program keeps: turns lead to where it stands, the place is sound, and the events that may still be given
 -- can be counted. Assumes nothing.
-use Rattle.std.specs.Prelude.{ℕ, ◌+◌, ◌-◌, ◌*◌, ◌≤◌, ◌<◌, false, ◌≡◌, refl, ◌≢◌, List, [], ◌++◌, length, take}
+use Rattle.std.specs.Prelude.{ℕ, ◌+◌, ◌*◌, ◌≤◌, ◌<◌, false, ◌≡◌, refl, List, [], ◌++◌, length, take}
 use Rattle.std.proofs.Common.{◌∙◌}
 use native.Mathlib.Omega.{arith}
 use Rattle.rules.proofs.Laws.Start.{start_starts}
@@ -58,19 +58,21 @@ under_next u w k m on =
 
 -- ---- the loop
 
-pub record Running (b buf₀ t₀ o₀ buf t o : List ℕ) (p : Place) (left : ℕ) : Type 0 where
+-- so many turns were made
+pub record Running (b buf₀ t₀ o₀ buf t o : List ℕ) (p : Place) (made : ℕ) : Type 0 where
   pub chunks : List (List ℕ)
   pub text : List ℕ
   pub under : Under b buf₀ t₀ o₀ chunks text buf t o p
-  pub some : 0 < turn_count under.way + left
-  pub counted : p.number + most_events * left ≤ most_events * turns
+  pub some : made ≡ turn_count under.way
+  pub counted : p.number ≤ most_events * made
 
-pub running_first : (b buf t o : List ℕ) (left : ℕ) → 0 < left → left ≤ turns → Running b buf t o buf t o outset left
-running_first b buf t o left l h =
-    record { chunks = _; text = _; under = under_first b buf t o; some = omega arith; counted = omega arith }
+pub running_first : (b buf t o : List ℕ) → Running b buf t o buf t o outset 0
+unfolding turn_count under_first
+running_first b buf t o =
+    record { chunks = _; text = _; under = under_first b buf t o; some = refl; counted = omega arith }
 
-module _ {b buf₀ t₀ o₀ buf t o : List ℕ} {p : Place} {left : ℕ} (r : Running b buf₀ t₀ o₀ buf t o p left) where
-  pub running_ample : LogBuffers buf₀ o₀ → 0 < left → Ample p buf o
+module _ {b buf₀ t₀ o₀ buf t o : List ℕ} {p : Place} {made : ℕ} (r : Running b buf₀ t₀ o₀ buf t o p made) where
+  pub running_ample : LogBuffers buf₀ o₀ → made < turns → Ample p buf o
   running_ample h l =
       let a = r.under.as_long in
       let c = r.under.as_roomy in
@@ -80,15 +82,15 @@ module _ {b buf₀ t₀ o₀ buf t o : List ℕ} {p : Place} {left : ℕ} (r : R
         counted = omega (arith, r.counted);
       }
 
-  pub running_next : {buf' t' o' : List ℕ} {p' : Place} → 0 < left → Turn buf t b o p buf' t' o' p'
-      → length buf' ≡ length buf → length o' ≡ length o → p'.done ≡ false → Running b buf₀ t₀ o₀ buf' t' o' p' (left - 1)
+  pub running_next : {buf' t' o' : List ℕ} {p' : Place} → Turn buf t b o p buf' t' o' p'
+      → length buf' ≡ length buf → length o' ≡ length o → p'.done ≡ false → Running b buf₀ t₀ o₀ buf' t' o' p' (made + 1)
   unfolding turn_count under_next
-  running_next l w k m on =
+  running_next w k m on =
       record {
         chunks = _;
         text = _;
         under = under_next r.under w k m on;
-        some = omega arith;
+        some = omega (arith, r.some);
         counted = omega (arith, r.counted, (turn_after w).few);
       }
 
@@ -98,18 +100,19 @@ module _ {b buf₀ t₀ o₀ buf t o : List ℕ} {p : Place} {left : ℕ} (r : R
   ran_last w =
       record { chunks = _; text = _; place = _; turns = more r.under.way r.under.on w; some = omega arith }
 
-  pub ran_all : left ≡ 0 → LogRan b buf₀ t₀ o₀ buf t o
+  pub ran_all : 0 < made → LogRan b buf₀ t₀ o₀ buf t o
   ran_all e = record { chunks = _; text = _; place = _; turns = r.under.way; some = omega (arith, r.some) }
 
 -- ---- the log
 
-module _ {b buf t o t₁ o₁ : List ℕ} {n : ℕ} (w : Begun t b o t₁ o₁ n) where
-  pub logged_ran : {buf' t' o' : List ℕ} → n ≡ 0 → LogRan b buf t₁ o₁ buf' t' o' → Logged b buf t o buf' t' o'
-  logged_ran {buf'} {t'} {o'} z r =
-      let begun = begun_none w z in
-      ran begun.0 (rw (w.table, begun.1) at r)
+pub logged_ran : {b buf t o t₁ o₁ : List ℕ} → Begun t b o t₁ o₁ 0 → {buf' t' o' : List ℕ} → LogRan b buf t₁ o₁ buf' t' o'
+    → Logged b buf t o buf' t' o'
+logged_ran w {buf'} {t'} {o'} r =
+    let begun = begun_none w refl in
+    ran begun.0 (rw (w.table, begun.1) at r)
 
-  pub logged_refused : n ≢ 0 → Logged b buf t o buf t₁ o₁
-  logged_refused z =
-      let not = begun_some w z in
-      refused n not w (w.table ∙ (start_starts t b).refusal not) refl
+pub logged_refused : {b t o t₁ o₁ : List ℕ} {n : ℕ} (buf : List ℕ) → Begun t b o t₁ o₁ n → 0 < n
+    → Logged b buf t o buf t₁ o₁
+logged_refused {b} {t} {n = n} buf w some =
+    let not = begun_some w (λ z. omega arith) in
+    refused n not w (w.table ∙ (start_starts t b).refusal not) refl

@@ -43,11 +43,10 @@ waits ended s e =
 
 -- ---- from what is lent of the buffer
 
-module _ (buf : List ℕ) (p : Place) {t b o t₁ o₁ : List ℕ} {g : Batch}
-    (w₀ : Gave (take (p.have - p.place) (drop p.place buf)) t b o p.number p.ended t₁ o₁ g) where
+module _ (buf : List ℕ) (p : Place) {s t b o t₁ o₁ : List ℕ} {g : Batch} (lent : s ≡ held buf p)
+    (w₀ : Gave s t b o p.number p.ended t₁ o₁ g) where
   w : Gave (held buf p) t b o p.number p.ended t₁ o₁ g
-  unfolding held
-  w = w₀
+  w = subst (λ (h : List ℕ). Gave h t b o p.number p.ended t₁ o₁ g) lent w₀
 
   -- a read
   pub turn_read : {buf' : List ℕ} {p' : Place} → g.ready.count ≡ 0 → g.ready.last ≡ false → Filled buf p buf' p'
@@ -74,7 +73,6 @@ module _ (buf : List ℕ) (p : Place) {t b o t₁ o₁ : List ℕ} {g : Batch}
 
   pub turn_gave : {r : Place} → Sound p (length buf) → most_text * most_events ≤ length o
       → (g.ready.count ≡ 0 → g.ready.last ≡ true) → r ≡ past p g → Turn buf t b o p buf t₁ o₁ r
-  unfolding held
   turn_gave s roomy some e =
       let m = w.many in
       let n = g.ready.count in

@@ -1,5 +1,5 @@
 -- What is held at the beginning, and once some of it was given, from the front. Assumes nothing.
-use Rattle.std.specs.Prelude.{ℕ, ◌+◌, ◌-◌, ◌≤◌, ◌≡◌}
+use Rattle.std.specs.Prelude.{ℕ, Bool, false, ◌+◌, ◌-◌, ◌≤◌, ◌≡◌}
 use Rattle.std.proofs.Math.Path.{sym, ap₂}
 use Rattle.std.proofs.Common.{ap, ◌∙◌, length-take-le, take-add, drop_at, drop-drop}
 use mathlib.Core.List.{List}
@@ -8,6 +8,16 @@ use Rattle.std.proofs.Math.ListN.{length, take, drop, length-drop}
 use Rattle.reader.specs.Held.{outset, Sound, held}
 use Rattle.reader.specs.Laws.Fill.{length_held}
 use Rattle.reader.specs.declared.place.Place.{Place}
+
+abbrev place_of : ℕ → ℕ → ℕ → ℕ → Bool → Bool → Place
+place_of a b n k e d = record { place = a; have = b; number = n; filled = k; ended = e; done = d }
+
+-- the place whose fields are all nothing
+pub outset_is : (p : Place)
+    → (p.place ≡ 0) × ((p.have ≡ 0) × ((p.number ≡ 0) × ((p.filled ≡ 0) × ((p.ended ≡ false) × (p.done ≡ false)))))
+    → p ≡ outset
+outset_is p e =
+    let same : place_of p.place p.have p.number p.filled p.ended p.done ≡ place_of 0 0 0 0 false false = cc in same
 
 -- at the beginning nothing is held
 pub outset_sound : (n : ℕ) → Sound outset n

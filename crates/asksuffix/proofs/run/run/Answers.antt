@@ -1,35 +1,33 @@
--- `run::run`: what each turn leaves; the room takes its text, and what is unread lies in the buffer.
-use Rattle.std.proofs.Common.{arith}
+-- `run::run`: what each turn leaves leads on, or the loop is left behind it; the room takes its text, and what is unread lies in
+-- the buffer.
+use Rattle.std.proofs.Common.{sym, arith, length-take-le}
+use Rattle.reader.specs.Laws.Past.{outset_is}
 use Rattle.asksuffix.specs.Laws.Run.{running_first, under_turn, running_next, ran_last}
 use Rattle.asksuffix.proofs.run.run.Goals as goal
 
-pub loop-left-init : goal.loop-left-init
-loop-left-init g c = running_first _ _ _ _ (omega arith) (omega arith)
+pub loop-init : goal.loop-init
+loop-init g c = rw (outset_is _ c.default-p.ensures) (running_first _ _ _)
 
-pub flush-requires : goal.flush-requires
-flush-requires g c =
-    let a = under_turn c.loop-left.invariant.under c.requires c.turn-p.ensures in omega (arith, a.fits, c.turn-p.auto.out)
+pub slice_bounds-put_out-end : goal.slice_bounds-put_out-end
+slice_bounds-put_out-end g c =
+    let a = under_turn c.loop.invariant.under c.requires c.turn-p.ensures in omega (arith, a.fits, c.turn-p.auto.out)
 
-pub returns-then-not-flush : goal.returns-then-not-flush
-returns-then-not-flush g c = ran_last c.loop-left.invariant c.turn-p.ensures
+pub slice_bounds-put_out-end-in-loop : goal.slice_bounds-put_out-end-in-loop
+slice_bounds-put_out-end-in-loop g c =
+    let a = under_turn c.loop.invariant.under c.requires c.turn-p.ensures in
+    sym (length-take-le c.turn-p.result.filled c.turn-p.new.out (omega (arith, a.fits, c.turn-p.auto.out)))
 
-pub slice_bounds-say_cut-count : goal.slice_bounds-say_cut-count
-slice_bounds-say_cut-count g c =
-    let a = under_turn c.loop-left.invariant.under c.requires c.turn-p.ensures in omega (arith, a.sound.ahead)
+pub returns-then-is_err : goal.returns-then-is_err
+returns-then-is_err g c = ran_last c.loop.invariant c.turn-p.ensures
 
-pub slice_bounds-say_cut-start : goal.slice_bounds-say_cut-start
-slice_bounds-say_cut-start g c =
-    let a = under_turn c.loop-left.invariant.under c.requires c.turn-p.ensures in omega (arith, a.sound.ahead)
-
-pub slice_bounds-say_cut-end : goal.slice_bounds-say_cut-end
-slice_bounds-say_cut-end g c =
-    let a = under_turn c.loop-left.invariant.under c.requires c.turn-p.ensures in
-    omega (arith, a.sound.inside, c.turn-p.auto.buf)
+pub held-requires : goal.held-requires
+held-requires g c =
+    let a = under_turn c.loop.invariant.under c.requires c.turn-p.ensures in
+    record { ahead = a.sound.ahead; inside = omega (arith, a.sound.inside, c.turn-p.auto.buf) }
 
 pub returns-then-p : goal.returns-then-p
-returns-then-p g c = ran_last c.loop-left.invariant c.turn-p.ensures
+returns-then-p g c = ran_last c.loop.invariant c.turn-p.ensures
 
-pub loop-left-preserved : goal.loop-left-preserved
-loop-left-preserved g c =
-    running_next c.loop-left.invariant c.requires c.loop-left-test.true c.turn-p.ensures c.turn-p.auto.buf c.turn-p.auto.out
-    c.if-p.false
+pub loop-preserved : goal.loop-preserved
+loop-preserved g c =
+    running_next c.loop.invariant c.requires c.turn-p.ensures c.turn-p.auto.buf c.turn-p.auto.out c.if-p.false
