@@ -1,15 +1,14 @@
 // The lines of the desk log, over a room from a place on; each function gives the place after its text.
-ghost use Rattle.std.specs.Prelude.{◌++◌, ◌+◌, ◌*◌, ◌≤◌, length};
+ghost use Rattle.std.specs.Prelude.{◌+◌, ◌*◌, ◌≤◌, length};
 ghost use Rattle.terms.specs.Names.{num};
 ghost use Rattle.logs.specs.Log.{number, payload, event_line, action_line, start_line, action_lines};
-ghost use Rattle.logs.specs.Inner.{Holds, Holding, lines_of};
+ghost use Rattle.logs.specs.Inner.{Holds, Holding, numbers as numbers_of, lines_of};
 ghost use Rattle.rules.specs.Sheet.{frame_at, frames_of, actions_in, bytes_in};
 ghost use Rattle.rules.specs.Inner.{Wrote};
 
 use crate::text::{put, put_decimal, put_hex};
 use frames::answer::{actions_in, bytes_in, number_in};
-use terms::byte::wide;
-use terms::num::four_at;
+use terms::num::num_at;
 
 // A number behind its space.
 fn put_number(out: &mut [u8], at: usize, n: u64) -> usize
@@ -26,20 +25,21 @@ pub fn put_payload(out: &mut [u8], at: usize, x: &[u8]) -> usize
     ensures { Wrote out.old at (payload x.now) out.new result }
 {
     let next = put(out, at, b' ');
-    if x.len() == 0 {
+    if x.is_empty() {
         return put(out, next, b'-');
     }
     put_hex(out, next, x)
 }
 
-// Three numbers.
-fn put_three(out: &mut [u8], at: usize, x: u64, y: u64, z: u64) -> usize
-    requires { at + 63 ≤ length out.old }
-    ensures { Wrote out.old at (number x ++ (number y ++ number z)) out.new result }
+fn put_numbers(out: &mut [u8], at: usize, numbers: &[u64]) -> usize
+    requires { at + 21 * length numbers.now ≤ length out.old }
+    ensures { Wrote out.old at (numbers_of numbers.now) out.new result }
 {
-    let a = put_number(out, at, x);
-    let b = put_number(out, a, y);
-    put_number(out, b, z)
+    let mut to = at;
+    for n in numbers {
+        to = put_number(out, to, *n);
+    }
+    to
 }
 
 pub fn put_start(out: &mut [u8], at: usize, n: u64) -> usize
@@ -56,7 +56,7 @@ fn put_event(out: &mut [u8], at: usize, n: u64, answer: u64, actions: u64) -> us
     ensures { Wrote out.old at (event_line n answer actions) out.new result }
 {
     let a = put(out, at, b'E');
-    let b = put_three(out, a, n, answer, actions);
+    let b = put_numbers(out, a, &[n, answer, actions]);
     put(out, b, b'\n')
 }
 
@@ -65,16 +65,17 @@ fn put_action(out: &mut [u8], at: usize, s: &[u8]) -> usize
     requires { (10 + num s.now 6 4 ≤ length s.now) × (at + 88 + 2 * num s.now 6 4 ≤ length out.old) }
     ensures { Wrote out.old at (action_line (frame_at s.now)) out.new result }
 {
-    let party = wide(s[0]) as u64;
-    let id = four_at(s, 1) as u64;
-    let tag = wide(s[5]) as u64;
-    let size = four_at(s, 6);
-    let end = 10 + size;
+    let size = num_at::<4>(s, 6);
+    let head = [
+        u64::from(s[0]),
+        num_at::<4>(s, 1) as u64,
+        u64::from(s[5]),
+        size as u64,
+    ];
     let a = put(out, at, b'A');
-    let b = put_three(out, a, party, id, tag);
-    let c = put_number(out, b, size as u64);
-    let d = put_payload(out, c, &s[10..end]);
-    put(out, d, b'\n')
+    let b = put_numbers(out, a, &head);
+    let c = put_payload(out, b, &s[10..10 + size]);
+    put(out, c, b'\n')
 }
 
 // So many frames, end to end in s.
@@ -84,12 +85,10 @@ fn put_actions(out: &mut [u8], at: usize, s: &[u8], count: u64) -> usize
 {
     let mut to = at;
     let mut p = 0;
-    let mut left = count;
-    while 0 < left {
+    for _ in 0..count {
         let part = &s[p..];
         to = put_action(out, to, part);
-        p += 10 + four_at(part, 6);
-        left -= 1;
+        p += 10 + num_at::<4>(part, 6);
     }
     to
 }

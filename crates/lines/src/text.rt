@@ -21,10 +21,10 @@ fn put_digits(out: &mut [u8], at: usize, n: u64, w: usize) -> usize
         return at;
     }
     if n < 10 {
-        return put(out, at, 48 + n as u8);
+        return put(out, at, b'0' + n as u8);
     }
     let next = put_digits(out, at, n / 10, w - 1);
-    put(out, next, 48 + (n % 10) as u8)
+    put(out, next, b'0' + (n % 10) as u8)
 }
 
 pub fn put_decimal(out: &mut [u8], at: usize, n: u64) -> usize
@@ -34,24 +34,25 @@ pub fn put_decimal(out: &mut [u8], at: usize, n: u64) -> usize
     put_digits(out, at, n, 20)
 }
 
+#[tactic(auto, using(logs::specs::Laws::Hex::hex_figure, logs::specs::Laws::Hex::hex_letter))]
 fn hex_digit(d: u8) -> u8
     requires { d < 16 }
     ensures { result ≡ hex_digit d }
 {
-    if d < 10 { 48 + d } else { 87 + d }
+    match d {
+        0..=9 => b'0' + d,
+        _ => b'a' - 10 + d,
+    }
 }
 
 pub fn put_hex(out: &mut [u8], at: usize, x: &[u8]) -> usize
     requires { at + 2 * length x.now ≤ length out.old }
     ensures { Wrote out.old at (hex x.now) out.new result }
 {
-    let mut i = 0;
-    while i < x.len() {
-        let v = x[i];
-        let to = at + 2 * i;
-        out[to] = hex_digit(v / 16);
-        out[to + 1] = hex_digit(v % 16);
-        i += 1;
+    let mut to = at;
+    for b in x {
+        to = put(out, to, hex_digit(b / 16));
+        to = put(out, to, hex_digit(b % 16));
     }
-    at + 2 * i
+    to
 }

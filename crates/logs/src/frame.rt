@@ -1,9 +1,20 @@
 // Frames of a stream that is held in part: where one ends, and how many are ready.
 ghost use Rattle.std.specs.Prelude.{◌≡◌, ◌≤◌, length};
 ghost use Rattle.logs.specs.Log.{whole, oversized, first_bytes};
-ghost use Rattle.logs.specs.Inner.{cut, ready};
+ghost use Rattle.logs.specs.Inner.{ready, IsFront};
 
-use terms::num::four_at;
+use terms::num::num_at;
+
+// What a stream begins with.
+#[derive(Clone, Copy)]
+pub enum Front {
+    // a whole frame, of so many bytes
+    Whole(usize),
+    // a head whose size exceeds 4,096
+    Oversized,
+    // less than that, or nothing
+    Cut,
+}
 
 // Events that may be given to the kernel, and whether none comes after them.
 #[derive(Clone, Copy)]
@@ -12,68 +23,42 @@ pub struct Ready {
     pub last: bool,
 }
 
+#[tactic(auto, using(crate::specs::Laws::First::whole_is, crate::specs::Laws::First::oversized_is, std::proofs::lemmas::Bool::Decides::nat_tests))]
+pub fn front_of(s: &[u8]) -> Front
+    ensures { IsFront s.now result }
+{
+    if s.len() < 10 {
+        return Front::Cut;
+    }
+    match num_at::<4>(s, 6) {
+        4097.. => Front::Oversized,
+        size if 10 + size <= s.len() => Front::Whole(10 + size),
+        _ => Front::Cut,
+    }
+}
+
 // The stream begins with a whole frame.
 pub fn is_whole(s: &[u8]) -> bool
     ensures { result ≡ whole s.now }
 {
-    if s.len() < 10 {
-        return false;
-    }
-    let size = four_at(s, 6);
-    if 4096 < size {
-        return false;
-    }
-    10 + size <= s.len()
+    matches!(front_of(s), Front::Whole(_))
 }
 
 pub fn is_oversized(s: &[u8]) -> bool
     ensures { result ≡ oversized s.now }
 {
-    if s.len() < 10 {
-        return false;
-    }
-    4096 < four_at(s, 6)
+    matches!(front_of(s), Front::Oversized)
 }
 
 // How many bytes the first event has.
+#[tactic(auto, using(crate::specs::Laws::First::first_whole, crate::specs::Laws::First::first_oversized, crate::specs::Laws::First::first_rest))]
 pub fn first_bytes(s: &[u8]) -> usize
     ensures { (result ≡ first_bytes s.now) × (result ≤ length s.now) }
 {
-    if is_whole(s) {
-        return 10 + four_at(s, 6);
-    }
-    if is_oversized(s) {
-        return 10;
-    }
-    s.len()
-}
-
-// What is ready where no whole frame is held.
-fn cut_ready(s: &[u8], ended: bool) -> Ready
-    ensures { result ≡ cut ended s.now }
-{
-    if is_oversized(s) {
-        return Ready {
-            count: 1,
-            last: true,
-        };
-    }
-    if !ended {
-        return Ready {
-            count: 0,
-            last: false,
-        };
-    }
-    let none = s.len() == 0;
-    if none {
-        return Ready {
-            count: 0,
-            last: true,
-        };
-    }
-    Ready {
-        count: 1,
-        last: true,
+    match front_of(s) {
+        Front::Whole(size) => size,
+        Front::Oversized => 10,
+        Front::Cut => s.len(),
     }
 }
 
@@ -82,21 +67,26 @@ pub fn count_ready(s: &[u8], ended: bool, most: u64) -> Ready
     ensures { result ≡ ready most ended s.now }
 {
     let mut at = 0;
-    let mut k: u64 = 0;
-    while k < most {
+    for count in 0..most {
         let part = &s[at..];
-        if !is_whole(part) {
-            let r = cut_ready(part, ended);
-            return Ready {
-                count: k + r.count,
-                last: r.last,
-            };
+        match front_of(part) {
+            Front::Whole(size) => at += size,
+            Front::Oversized => {
+                return Ready {
+                    count: count + 1,
+                    last: true,
+                };
+            }
+            Front::Cut => {
+                return Ready {
+                    count: count + u64::from(ended && !part.is_empty()),
+                    last: ended,
+                };
+            }
         }
-        at += first_bytes(part);
-        k += 1;
     }
     Ready {
-        count: k,
+        count: most,
         last: false,
     }
 }

@@ -1,5 +1,4 @@
-// Events of the buffered stream, given to the kernel one after another. The reader's position is lent on from frame to frame
-// and moved past each: `next` and `serve` are walks over `give`, which takes it by value.
+// Events of the buffered stream, given to the kernel one after another.
 ghost use Rattle.std.specs.Prelude.{◌+◌, ◌*◌, ◌≤◌, ◌<◌, length};
 ghost use Rattle.logs.specs.Inner.{most_text, Room, One, Many};
 
@@ -8,7 +7,7 @@ use lines::line::put_lines;
 use logs::cursor::Cursor;
 use logs::frame::first_bytes;
 
-// The position after an event, and how much of the room its text has filled.
+// The reader's position, and how much of the room the text of the events before it has filled.
 #[derive(Clone, Copy)]
 pub struct Served {
     pub cursor: Cursor,
@@ -16,48 +15,20 @@ pub struct Served {
 }
 
 // The event at the cursor.
-fn give(
-    stream: &[u8],
-    table: &mut [u8],
-    book: &[u8],
-    out: &mut [u8],
-    c: Cursor,
-    filled: usize,
-) -> Served
-    requires { Room stream.now out.old c filled }
-    ensures { One stream.now table.old book.now out.old c filled table.new out.new result.cursor result.filled }
+fn give(stream: &[u8], table: &mut [u8], book: &[u8], out: &mut [u8], at: Served) -> Served
+    requires { Room stream.now out.old at.cursor at.filled }
+    ensures { One stream.now table.old book.now out.old at.cursor at.filled table.new out.new result.cursor result.filled }
 {
-    let place = c.place;
-    let number = c.number + 1;
+    let Cursor { place, number } = at.cursor;
     let end = place + first_bytes(&stream[place..]);
     let mut room = [0u8; 4106];
     let answer = stewlattice_step(table, book, &stream[place..end], &mut room);
-    let to = put_lines(out, filled, number, answer, &room);
     let cursor = Cursor {
         place: end,
-        number: number,
+        number: number + 1,
     };
-    Served {
-        cursor: cursor,
-        filled: to,
-    }
-}
-
-// The event at the cursor, which is lent and moved past it; how much of the room is filled is given.
-fn next(
-    stream: &[u8],
-    table: &mut [u8],
-    book: &[u8],
-    out: &mut [u8],
-    c: &mut Cursor,
-    filled: usize,
-) -> usize
-    requires { Room stream.now out.old c.old filled }
-    ensures { One stream.now table.old book.now out.old c.old filled table.new out.new c.new result }
-{
-    let s = give(stream, table, book, out, *c, filled);
-    *c = s.cursor;
-    s.filled
+    let filled = put_lines(out, at.filled, cursor.number, answer, &room);
+    Served { cursor, filled }
 }
 
 // So many events from the front of the stream, their text over the front of the room.
@@ -72,18 +43,12 @@ pub fn serve(
     requires { (number + count < 18446744073709551616) × (most_text * count ≤ length out.old) }
     ensures { Many stream.now table.old book.now out.old number count table.new out.new result.cursor result.filled }
 {
-    let mut c = Cursor {
-        place: 0,
-        number: number,
+    let mut at = Served {
+        cursor: Cursor { place: 0, number },
+        filled: 0,
     };
-    let mut filled = 0;
-    let mut left = count;
-    while left > 0 {
-        filled = next(stream, &mut *table, book, &mut *out, &mut c, filled);
-        left -= 1;
+    for _ in 0..count {
+        at = give(stream, table, book, out, at);
     }
-    Served {
-        cursor: c,
-        filled: filled,
-    }
+    at
 }

@@ -1,7 +1,7 @@
 -- A loop that writes the lines of frames that lie end to end: what is written, and then the lines of the frames that are left,
 -- is all of them. Assumes nothing.
 use Rattle.std.specs.Prelude.{ℕ, zero, suc, ◌+◌, ◌*◌, ◌-◌, ◌≤◌, ◌<◌, ◌≡◌, refl, List, ◌++◌, length, drop}
-use Rattle.std.proofs.Common.{ap, sym, subst, ◌∙◌, arith, length-drop, drop-drop, length-take-le}
+use Rattle.std.proofs.Common.{ap, ap₂, sym, subst, ◌∙◌, arith, length-drop, drop-drop, length-take-le}
 use Rattle.terms.specs.Names.{num}
 use Rattle.logs.specs.Rule.Line.{action_line, action_lines}
 use Rattle.logs.specs.Rule.Written.{Holds}
@@ -64,27 +64,30 @@ module _ {o : List ℕ} {at : ℕ} {s : List ℕ} {count : ℕ} {u : List ℕ} {
       let room = g.room in
       rw (from_is s p) (h, omega arith)
 
-  pub going_more : {u' : List ℕ} {k n : ℕ} → Going o at s count u to p left → 0 < left
+  pub going_more : {u' : List ℕ} {k n next : ℕ} → Going o at s count u to p left → next + 1 ≡ left
       → Wrote u to (action_line (frame_at (from s p))) u' k → length u' ≡ length u → n ≡ num (from s p) 6 4
-      → Going o at s count u' k (p + (10 + n)) (left - 1)
-  going_more {u'} {k} {n} g l w₀ same e₀ =
+      → Going o at s count u' k (p + (10 + n)) next
+  going_more {u'} {k} {n} {next} g one w₀ same e₀ =
       let d = drop p s in
+      let l : 0 < left = omega arith in
+      let less : left - 1 ≡ next = omega arith in
       let w : Wrote u to (action_line (frame_at d)) u' k = rw (from_is s p) at w₀ in
       let e : n ≡ num d 6 4 = rw (from_is s p) at e₀ in
       let h = holds_first left d l g.holds in
       let long = length-drop p s in
       let line = length_first d h in
-      let next = w.next in
+      let ends = w.next in
       let room = g.room in
       let inside = g.inside in
       let on : drop (extent d) d ≡ drop (p + (10 + n)) s =
       drop-drop (extent d) p s ∙ ap (λ m. drop (p + (10 + m)) s) (sym e) in
-      let split = lines_first left d l ∙ ap (λ m. action_line (frame_at d) ++ action_lines (frames_of (left - 1) m)) on in
+      let split =
+      lines_first left d l ∙ ap₂ (λ k m. action_line (frame_at d) ++ action_lines (frames_of k m)) less on in
       record {
         same = same ∙ g.same;
         inside = omega arith;
         room = omega arith;
-        holds = subst (Holds (left - 1)) on (holds_rest left d l g.holds);
+        holds = rw less at (subst (Holds (left - 1)) on (holds_rest left d l g.holds));
         rest = λ o' r w'. g.rest o' r (wrote_is (sym split) refl (wrote_then (omega arith) w w'));
       }
 

@@ -1,10 +1,11 @@
 -- How long words and lines are at most. Assumes nothing.
-use Rattle.std.specs.Prelude.{ℕ, ◌+◌, ◌*◌, ◌≤◌, ◌<◌, ◌≡◌, refl, Bool, true, false, cond, ◌≢◌, List, [], ◌∷◌, ◌++◌, length, eqb}
+use Rattle.std.specs.Prelude.{ℕ, ◌+◌, ◌*◌, ◌≤◌, ◌<◌, ◌≡◌, refl, Bool, true, false, cond, ◌≢◌, List, [], ◌∷◌, length, eqb}
 use Rattle.std.proofs.Common.{arith, length-append, ne_eqb}
 use Rattle.rules.specs.Sheet.{Frame, frames, Outcome}
 use Rattle.rules.specs.Inner.{size}
 use Rattle.rules.proofs.Laws.Frame.{length_frames}
 use Rattle.logs.specs.Rule.Line.{hex, number, payload, start_line, event_line, action_line, action_lines, lines}
+use Rattle.logs.specs.Rule.Written.{numbers}
 use Rattle.logs.specs.Laws.Digits.{length_decimal}
 use Rattle.logs.specs.Laws.Hex.{length_hex}
 
@@ -12,11 +13,12 @@ pub length_number : (x : ℕ) → length (number x) ≤ 21
 unfolding number
 length_number x = let h = length_decimal x in omega arith
 
-pub length_three : (x y z : ℕ) → length (number x ++ (number y ++ number z)) ≤ 63
-length_three x y z =
+pub length_numbers : (l : List ℕ) → length (numbers l) ≤ 21 * length l
+unfolding numbers
+length_numbers [] = omega arith
+length_numbers (x ∷ l) =
     let a = length_number x in
-    let b = length_number y in
-    let c = length_number z in
+    let b = length_numbers l in
     simp length-append (omega arith)
 
 either : (b : Bool) (x : List ℕ) → length (cond b (45 ∷ []) (hex x)) ≤ 1 + 2 * length x

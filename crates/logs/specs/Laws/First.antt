@@ -10,27 +10,24 @@ use Rattle.terms.specs.Names.{num}
 use Rattle.logs.specs.Rule.Stream.{whole, oversized, first_bytes}
 
 module _ (s : List ℕ) where
-  -- ---- the tests, in the order of the code
+  -- ---- the tests
 
-  pub whole_short : length s < 10 → false ≡ whole s
+  pub whole_is : whole s ≡ leb 10 (length s) && leb (num s 6 4) 4096 && leb (10 + num s 6 4) (length s)
   unfolding whole
-  whole_short h = rw (lt-leb 10 (length s) h)
+  whole_is = refl
 
-  pub whole_over : {k : ℕ} → 10 ≤ length s → k ≡ num s 6 4 → 4096 < k → false ≡ whole s
-  unfolding whole
-  whole_over {k} h e o = rw (← e, le-leb 10 (length s) h, lt-leb k 4096 o)
-
-  pub whole_is : {k : ℕ} → 10 ≤ length s → k ≡ num s 6 4 → k ≤ 4096 → leb (10 + k) (length s) ≡ whole s
-  unfolding whole
-  whole_is {k} h e o = rw (← e, le-leb 10 (length s) h, le-leb k 4096 o)
-
-  pub oversized_short : length s < 10 → false ≡ oversized s
+  pub oversized_is : oversized s ≡ leb 10 (length s) && ltb 4096 (num s 6 4)
   unfolding oversized
-  oversized_short h = rw (lt-leb 10 (length s) h)
+  oversized_is = refl
 
-  pub oversized_is : {k : ℕ} → 10 ≤ length s → k ≡ num s 6 4 → ltb 4096 k ≡ oversized s
-  unfolding oversized
-  oversized_is {k} h e = rw (← e, le-leb 10 (length s) h)
+  large_cut : 10 ≤ length s → 4096 < num s 6 4 → whole s ≡ false
+  large_cut h o = rw (whole_is, le-leb 10 (length s) h, lt-leb (num s 6 4) 4096 o) refl
+
+  small_whole : 10 ≤ length s → num s 6 4 ≤ 4096 → whole s ≡ leb (10 + num s 6 4) (length s)
+  small_whole h o = rw (whole_is, le-leb 10 (length s) h, le-leb (num s 6 4) 4096 o) refl
+
+  head_oversized : 10 ≤ length s → oversized s ≡ ltb 4096 (num s 6 4)
+  head_oversized h = rw (oversized_is, le-leb 10 (length s) h) refl
 
   -- ---- what a test says that holds
 
@@ -76,8 +73,7 @@ module _ (s : List ℕ) where
   unfolding first_bytes
   first_oversized h =
       let o = oversized_has h in
-      let cut = whole_over o.long refl o.large in
-      rw (sym cut, h)
+      rw (large_cut o.long o.large, h)
 
   pub first_rest : whole s ≡ false → oversized s ≡ false → first_bytes s ≡ length s
   unfolding first_bytes
@@ -90,8 +86,8 @@ module _ (s : List ℕ) where
       (λ e.
       let l = ltb-false (length s) 4106 e in
       let long : 10 ≤ length s = omega arith in
-      let small = ltb-false 4096 (num s 6 4) (oversized_is long refl ∙ o) in
-      let short = leb-false (10 + num s 6 4) (length s) (whole_is long refl small ∙ h) in
+      let small = ltb-false 4096 (num s 6 4) (sym (head_oversized long) ∙ o) in
+      let short = leb-false (10 + num s 6 4) (length s) (sym (small_whole long small) ∙ h) in
       omega arith)
 
   pub first_inside : first_bytes s ≤ length s

@@ -1,9 +1,9 @@
 -- Laws of bytes in hex: how long they are, their digits, and one byte more. Assumes nothing.
-use Rattle.std.specs.Prelude.{ℕ, ◌+◌, ◌*◌, ◌/◌, ◌%◌, ◌≤◌, ◌<◌, ◌≡◌, refl, List, [], ◌∷◌, ◌++◌, length, get_or, set, take}
-use Rattle.std.proofs.Common.{ap, ap₂, sym, ◌∙◌, arith, add-one, length-set, take-suc, take_all, lt-ltb, le-ltb}
+use Rattle.std.specs.Prelude.{ℕ, ◌+◌, ◌*◌, ◌/◌, ◌%◌, ◌≤◌, ◌<◌, ◌≡◌, refl, List, [], ◌∷◌, ◌++◌, length, get_or, take}
+use Rattle.std.proofs.Common.{ap, ap₂, sym, ◌∙◌, arith, add-one, length-take-le, take-suc, take_all, lt-ltb, le-ltb}
 use Rattle.logs.specs.Rule.Line.{hex_digit, hex}
 use Rattle.rules.specs.Inner.{Wrote}
-use Rattle.rules.proofs.Laws.Wrote.{wrote_none, wrote_byte, wrote_then, wrote_is}
+use Rattle.rules.proofs.Laws.Wrote.{wrote_none, wrote_three, wrote_is}
 
 pub hex_figure : (d : ℕ) → d < 10 → hex_digit d ≡ 48 + d
 unfolding hex_digit
@@ -30,37 +30,36 @@ hex_byte v = refl
 
 -- ---- a loop that has written i bytes of x
 
-pub record Hexed (o : List ℕ) (at : ℕ) (x u : List ℕ) (i : ℕ) : Type 0 where
+pub record Hexed (o : List ℕ) (at : ℕ) (x u : List ℕ) (to i : ℕ) : Type 0 where
   pub some : i ≤ length x
   pub same : length u ≡ length o
-  pub wrote : Wrote o at (hex (take i x)) u (at + 2 * i)
+  pub wrote : Wrote o at (hex (take i x)) u to
 
-pub hexed_none : (o : List ℕ) (at : ℕ) (x : List ℕ) → Hexed o at x o 0
+pub hexed_none : (o : List ℕ) (at : ℕ) (x : List ℕ) → Hexed o at x o at 0
 unfolding hex
-hexed_none o at x = record { some = omega arith; same = refl; wrote = wrote_is refl (omega arith) (wrote_none o at) }
+hexed_none o at x = record { some = omega arith; same = refl; wrote = wrote_none o at }
 
-pub hexed_more : {o : List ℕ} {at : ℕ} {x u : List ℕ} {i a b : ℕ} → at + 2 * length x ≤ length o → i < length x
-    → Hexed o at x u i → a ≡ hex_digit (get_or x i 0 / 16) → b ≡ hex_digit (get_or x i 0 % 16)
-    → Hexed o at x (set (set u (at + 2 * i) a) (at + 2 * i + 1) b) (i + 1)
-hexed_more {o} {at} {x} {u} {i} {a} {b} h l w p q =
+-- where the next digit goes
+pub hexed_at : {o : List ℕ} {at : ℕ} {x u : List ℕ} {to i : ℕ} → Hexed o at x u to i → to ≡ at + 2 * i
+hexed_at {x = x} {i = i} w =
+    omega (arith, w.wrote.next, length_hex (take i x), length-take-le i x w.some)
+
+pub hexed_more : {o : List ℕ} {at : ℕ} {x u : List ℕ} {to i : ℕ} {a b : ℕ} {u₁ : List ℕ} {to₁ : ℕ} {u₂ : List ℕ} {to₂ : ℕ}
+    → at + 2 * length x ≤ length o → i < length x → Hexed o at x u to i → a ≡ hex_digit (get_or x i 0 / 16)
+    → b ≡ hex_digit (get_or x i 0 % 16) → Wrote u to (a ∷ []) u₁ to₁ → length u₁ ≡ length u
+    → Wrote u₁ to₁ (b ∷ []) u₂ to₂ → length u₂ ≡ length u₁ → Hexed o at x u₂ to₂ (i + 1)
+hexed_more {x = x} {i = i} {a = a} {b = b} h l w p q one same₁ two same₂ =
     let v = get_or x i 0 in
-    let u₁ = set u (at + 2 * i) a in
-    let s = w.same in
-    let s₁ : length u₁ ≡ length u = length-set u (at + 2 * i) a in
-    let digit : hex (v ∷ []) ≡ a ∷ b ∷ [] = hex_byte v ∙ ap₂ (λ c d. c ∷ d ∷ []) (sym p) (sym q) in
+    let digits : hex (v ∷ []) ≡ a ∷ b ∷ [] = hex_byte v ∙ ap₂ (λ c d. c ∷ d ∷ []) (sym p) (sym q) in
     let more : hex (take (i + 1) x) ≡ hex (take i x) ++ (a ∷ b ∷ []) =
     ap hex (ap (λ n. take n x) (add-one i) ∙ take-suc x i 0 l) ∙ hex_append (take i x) (v ∷ [])
-    ∙ ap (λ m. hex (take i x) ++ m) digit in
+    ∙ ap (λ m. hex (take i x) ++ m) digits in
+    let e = hexed_at w in
     record {
       some = omega arith;
-      same = length-set u₁ (at + 2 * i + 1) b ∙ s₁ ∙ s;
-      wrote =
-          wrote_is (sym more) (omega arith)
-          (wrote_then (omega arith) w.wrote
-          (wrote_then {x = a ∷ []} (omega arith) (wrote_byte u (at + 2 * i) a (omega arith))
-          (wrote_byte u₁ (at + 2 * i + 1) b (omega arith))));
+      same = same₂ ∙ same₁ ∙ w.same;
+      wrote = wrote_is (sym more) refl (wrote_three {x = hex (take i x)} {y = a ∷ []} (omega arith) w.wrote one two);
     }
 
-pub hexed_all : {o : List ℕ} {at : ℕ} {x u : List ℕ} {i : ℕ} → length x ≤ i → Hexed o at x u i
-    → Wrote o at (hex x) u (at + 2 * i)
-hexed_all {o} {at} {x} {u} {i} h w = wrote_is (ap hex (take_all i x h)) refl w.wrote
+pub hexed_all : {o : List ℕ} {at : ℕ} {x u : List ℕ} {to i : ℕ} → length x ≤ i → Hexed o at x u to i → Wrote o at (hex x) u to
+hexed_all {x = x} {i = i} h w = wrote_is (ap hex (take_all i x h)) refl w.wrote

@@ -4,6 +4,7 @@ use Rattle.std.specs.Prelude.{ℕ, zero, suc, ◌+◌, ◌≤◌, ◌≡◌, ref
 use Rattle.std.proofs.Math.Path.{ap}
 use Rattle.std.proofs.Common.{◌∙◌, arith, eqb-true, eq-eqb, ne_eqb}
 use Rattle.std.proofs.lemmas.Bool.{eqb-false}
+use Rattle.std.specs.Int.{from_bool}
 use Rattle.terms.specs.Laws.Bools.{cases}
 use Rattle.fields.specs.Base.{one}
 use Rattle.logs.specs.Rule.Stream.{whole, oversized, first_bytes}
@@ -31,6 +32,18 @@ cut_empty s h n = cut_end s h ∙ rw (eq-eqb (length s) 0 n)
 pub cut_rest : (s : List ℕ) → oversized s ≡ false → length s ≢ 0 → cut true s ≡ record { count = 1; last = true }
 unfolding one
 cut_rest s h n = cut_end s h ∙ rw (ne_eqb (length s) 0 n)
+
+counts : (b : Bool) → from_bool b ≡ one b
+unfolding one
+counts true = refl
+counts false = refl
+
+-- one is ready of what is left at the stream's end, if anything is
+pub cut_left : {n : ℕ} {b : Bool} (ended : Bool) (s : List ℕ) → oversized s ≡ false → n ≡ from_bool b
+    → (ended ≡ false → b ≡ false) → (ended ≡ true → b ≡ not (eqb (length s) 0)) → record { count = n; last = ended } ≡ cut ended s
+unfolding one
+cut_left {b = b} false s h e off on = rw (cut_open s h, e, counts b, off refl) refl
+cut_left {b = b} true s h e off on = rw (cut_end s h, e, counts b, on refl) refl
 
 pub cut_ended : (s : List ℕ) → (cut true s).last ≡ true
 cut_ended s = cases (oversized s) (λ h. ap (λ r. r.last) (cut_large true s h)) (λ h. ap (λ r. r.last) (cut_end s h))

@@ -1,23 +1,30 @@
--- The loop keeps: k events are counted, and the others that are wanted are sought in what stands after those. Assumes nothing.
-use Rattle.std.proofs.Common.{arith}
-use Rattle.logs.specs.Laws.Ready.{cut_few}
+-- The loop keeps: so many events are counted, and the others that are wanted are sought in what stands after those. Assumes nothing.
+use Rattle.std.proofs.Common.{true≢false, not, sym, ap, ◌∙◌}
+use Rattle.logs.specs.Laws.Ready.{cut_large, cut_left}
 use Rattle.logs.specs.Laws.Count.{counted_more, counted_cut, counted_all}
 use Rattle.logs.proofs.frame.count_ready.Goals as goal
+use Rattle.logs.proofs.frame.count_ready.Goals.{then-ended, else-ended}
 
-pub overflow_add-result : goal.overflow_add-result
-overflow_add-result c = let r = cut_few _ _ c.cut_ready-r.ensures in omega arith
+pub returns-in-Oversized : goal.returns-in-Oversized
+returns-in-Oversized c =
+    let is = c.in-Oversized.ensures in
+    counted_cut c.loop-count.invariant c.loop-count-test.true is.0 (sym (cut_large _ _ is.1))
 
-pub returns-then-not-is_whole : goal.returns-then-not-is_whole
-returns-then-not-is_whole c =
-    let cut = c.if-not-is_whole.true in
-    counted_cut c.loop-k.invariant c.loop-k-test.true c.is_whole.ensures cut
-    c.cut_ready-r.ensures
+pub returns-in-Cut : goal.returns-in-Cut
+returns-in-Cut c =
+    let is = c.in-Cut.ensures in
+    counted_cut c.loop-count.invariant c.loop-count-test.true is.0
+    (cut_left _ _ is.1 c.from.ensures
+    (λ off. elim c.if-ended.branch [ then-ended w ↦ absurd (true≢false (sym w.if-ended.true ∙ off)) | else-ended w ↦ w.from-is ∙ off ])
+    (λ on.
+    elim c.if-ended.branch [
+      | then-ended w ↦ w.from-is ∙ ap not w.is_empty.ensures
+      | else-ended w ↦ absurd (true≢false (sym on ∙ w.if-ended.false))
+    ]))
 
-pub loop-k-preserved : goal.loop-k-preserved
-loop-k-preserved c =
-    let there = c.if-not-is_whole.false in
-    counted_more c.loop-k.invariant c.loop-k-test.true c.is_whole.ensures there
-    c.first_bytes-at.ensures.0
+pub loop-count-preserved : goal.loop-count-preserved
+loop-count-preserved c =
+    let is = c.in-Whole.ensures in counted_more c.loop-count.invariant c.loop-count-test.true is.0 is.2
 
 pub returns : goal.returns
-returns c = counted_all c.loop-k.invariant c.loop-k-test.false
+returns c = counted_all c.loop-count.invariant c.loop-count-test.false

@@ -1,13 +1,12 @@
--- While one is left it can be given, and then one less is left. Assumes nothing.
-use Rattle.serving.proofs.Turns.{all_left, can_give, one_less}
+-- While one is left it can be given, and then one more is. Assumes nothing.
+use Rattle.serving.proofs.Turns.{none_given, can_give, one_given}
 use Rattle.serving.proofs.serve.serve.Goals as goal
 
-pub loop-left-init : goal.loop-left-init
-loop-left-init c = all_left c.args.stream.now c.args.table.now c.args.book.now c.args.out.now c.args.number c.args.count
+pub loop-init : goal.loop-init
+loop-init c = none_given _ _ _ _ _
 
-pub next-filled-requires : goal.next-filled-requires
-next-filled-requires c = can_give c.requires c.loop-left.invariant c.loop-left-test.true
+pub give-at-requires : goal.give-at-requires
+give-at-requires c = can_give c.loop.invariant c.requires c.loop-test.true
 
-pub loop-left-preserved : goal.loop-left-preserved
-loop-left-preserved c =
-    one_less c.loop-left.invariant c.loop-left-test.true c.next-filled.ensures c.next-filled.auto.out
+pub loop-preserved : goal.loop-preserved
+loop-preserved c = one_given c.loop.invariant c.give-at.ensures c.give-at.auto.out

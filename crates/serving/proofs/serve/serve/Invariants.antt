@@ -1,11 +1,6 @@
--- The loop keeps: so many events are given, and the others are left. Assumes nothing.
-use Rattle.serving.proofs.Turns.{Left}
+-- The loop keeps: so many events are given. Assumes nothing.
+use Rattle.serving.proofs.Turns.{Given}
 use Rattle.serving.proofs.serve.serve.Given as goal
 
-abbrev pub invariant-loop-left : goal.invariant-loop-left
-invariant-loop-left l =
-    Left l.stream l.initial.table l.book l.initial.out l.number l.count l.left
-    (record { cursor = l.c; filled = l.filled; table = l.table; room = l.out })
-
-abbrev pub decreases-loop-left : goal.decreases-loop-left
-decreases-loop-left l = l.left
+abbrev pub invariant-loop : goal.invariant-loop
+invariant-loop l = Given l.stream l.initial.table l.book l.initial.out l.number l.counter l.table l.out l.at
