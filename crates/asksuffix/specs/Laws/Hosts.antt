@@ -1,5 +1,5 @@
 -- What a stream begins with, what more bytes behind it change, and its hosts one by one. Assumes nothing.
-use Rattle.std.specs.Prelude.{ℕ, zero, suc, ◌+◌, ◌≤◌, ◌<◌, ◌≡◌, refl, true, false, length, drop}
+use Rattle.std.specs.Prelude.{ℕ, zero, suc, ◌+◌, ◌≤◌, ◌<◌, ◌≡◌, refl, true, false, ◌&&◌, length, drop}
 use Rattle.std.proofs.Common.{sym, ◌∙◌, le_refl, length-append}
 use Rattle.std.proofs.Math.Path.{ap, ap₂}
 use mathlib.Core.List.{List, [], ◌∷◌, ◌++◌}
@@ -14,12 +14,16 @@ use Rattle.terms.specs.Names.{num}
 use Rattle.terms.specs.Laws.Num.{num_ext}
 use Rattle.asksuffix.specs.Rule.Hosts.{host_bytes, host_whole, first_host, hosts_in, hosts}
 
--- ---- the test, in the order of the code
+-- ---- the test
 
 module _ (s : List ℕ) where
-  pub bytes_is : {n : ℕ} → n ≡ num s 0 2 → 2 + n ≡ host_bytes s
+  pub bytes_tests : host_bytes s ≡ 2 + num s 0 2
   unfolding host_bytes
-  bytes_is e = ap (λ (k : ℕ). 2 + k) e
+  bytes_tests = refl
+
+  pub whole_tests : host_whole s ≡ leb 2 (length s) && leb (host_bytes s) (length s)
+  unfolding host_whole
+  whole_tests = refl
 
   pub bytes_two : 2 ≤ host_bytes s
   unfolding host_bytes
@@ -28,10 +32,6 @@ module _ (s : List ℕ) where
   pub whole_short : length s < 2 → false ≡ host_whole s
   unfolding host_whole
   whole_short h = rw (lt-leb 2 (length s) h)
-
-  pub whole_is : {k : ℕ} → 2 ≤ length s → k ≡ host_bytes s → leb k (length s) ≡ host_whole s
-  unfolding host_whole
-  whole_is {k} h e = rw (← e, le-leb 2 (length s) h)
 
   -- ---- what it says where it holds
 

@@ -1,6 +1,6 @@
 -- What a turn leaves, and what the program's loop keeps: turns lead to where it stands, the place is sound, and the hosts that may
 -- still be answered can be counted. Assumes nothing.
-use Rattle.std.specs.Prelude.{ℕ, ◌+◌, ◌-◌, ◌≤◌, ◌<◌, ◌≡◌, refl, false, List, [], ◌++◌, length, take}
+use Rattle.std.specs.Prelude.{ℕ, ◌+◌, ◌≤◌, ◌<◌, ◌≡◌, refl, false, List, [], ◌++◌, length, take}
 use Rattle.std.proofs.Common.{sym, ap, subst, ◌∙◌}
 use native.Mathlib.Omega.{arith}
 use Rattle.logs.specs.Log.{chunk}

@@ -5,8 +5,8 @@ use Rattle.serving.proofs.serve.serve.Goals as goal
 pub loop-init : goal.loop-init
 loop-init c = none_given _ _ _ _ _
 
-pub give-at-requires : goal.give-at-requires
-give-at-requires c = can_give c.loop.invariant c.requires c.loop-test.true
+pub next-filled-requires : goal.next-filled-requires
+next-filled-requires c = can_give c.loop.invariant c.requires c.loop-test.true
 
 pub loop-preserved : goal.loop-preserved
-loop-preserved c = one_given c.loop.invariant c.give-at.ensures c.give-at.auto.out
+loop-preserved c = one_given c.loop.invariant c.next-filled.ensures c.next-filled.auto.out
