@@ -1,50 +1,59 @@
-// Whom an action is for, and which it is, as document 01's table of actions has them.
+// What the kernel tells a host to do, as document 01's table of actions has it: each is for one party, and has a tag.
+ghost use Rattle.std.specs.Prelude.{◌≡◌};
+ghost use Rattle.frames.specs.Action.{party_of, tag_of};
 
-// To a seat's screen.
-pub const SCREEN: u8 = 1;
+#[derive(Clone, Copy, Debug, PartialEq, Eq)]
+pub enum Action {
+    // To a seat's screen.
+    Bar,
+    Paint,
+    // To a tab.
+    Go,
+    Render,
+    Key,
+    Mouse,
+    Error,
+    Document,
+    Cookie,
+    // To a process.
+    Set,
+    Get,
+    // To the network.
+    Fetch,
+    // To the host.
+    StartTab,
+    StopTab,
+    StartProcess,
+    StopProcess,
+    OpenSocket,
+}
 
-pub const BAR: u8 = 1;
+impl Action {
+    pub fn party(self) -> u8
+        ensures { result ≡ party_of self }
+    {
+        use Action::*;
+        match self {
+            Bar | Paint => 1,
+            Go | Render | Key | Mouse | Error | Document | Cookie => 2,
+            Set | Get => 3,
+            Fetch => 4,
+            StartTab | StopTab | StartProcess | StopProcess | OpenSocket => 5,
+        }
+    }
 
-pub const PAINT: u8 = 2;
-
-// To a tab.
-pub const TAB: u8 = 2;
-
-pub const GO: u8 = 1;
-
-pub const RENDER: u8 = 2;
-
-pub const KEY: u8 = 3;
-
-pub const MOUSE: u8 = 4;
-
-pub const ERROR: u8 = 5;
-
-pub const DOCUMENT: u8 = 6;
-
-pub const COOKIE: u8 = 7;
-
-// To a process.
-pub const PROCESS: u8 = 3;
-
-pub const SET: u8 = 1;
-
-pub const GET: u8 = 2;
-
-// To the network.
-pub const NETWORK: u8 = 4;
-
-pub const FETCH: u8 = 1;
-
-// To the host.
-pub const HOST: u8 = 5;
-
-pub const START_TAB: u8 = 1;
-
-pub const STOP_TAB: u8 = 2;
-
-pub const START_PROCESS: u8 = 3;
-
-pub const STOP_PROCESS: u8 = 4;
-
-pub const OPEN_SOCKET: u8 = 5;
+    pub fn tag(self) -> u8
+        ensures { result ≡ tag_of self }
+    {
+        use Action::*;
+        match self {
+            Bar | Go | Set | Fetch | StartTab => 1,
+            Paint | Render | Get | StopTab => 2,
+            Key | StartProcess => 3,
+            Mouse | StopProcess => 4,
+            Error | OpenSocket => 5,
+            Document => 6,
+            Cookie => 7,
+        }
+    }
+}

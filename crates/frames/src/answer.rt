@@ -23,18 +23,21 @@ pub fn pack(answer: Result<Done, Refusal>) -> u64
     }
 }
 
+#[tactic(auto, using(rules::proofs::Steps::Answer::number_in_is))]
 pub fn number_in(answer: u64) -> u64
     ensures { result ≡ number_in answer }
 {
     answer % 256
 }
 
+#[tactic(auto, using(rules::proofs::Steps::Answer::actions_in_is))]
 pub fn actions_in(answer: u64) -> u64
     ensures { result ≡ actions_in answer }
 {
     answer / 256 % 256
 }
 
+#[tactic(auto, using(rules::proofs::Steps::Answer::bytes_in_is))]
 pub fn bytes_in(answer: u64) -> usize
     ensures { result ≡ bytes_in answer }
 {

@@ -1,6 +1,6 @@
 -- What the kernel's functions ask of their callers, and what they leave, below the two calls. Assumes nothing.
-use Rattle.std.specs.Prelude.{ℕ, ◌+◌, ◌≤◌, ◌<◌, ◌≡◌, Bool, true, not, cond, ◌≢◌, List, [], ◌∷◌, length, eqb, Result, Ok, Err}
-use Rattle.terms.specs.Names.{folded, sound_book}
+use Rattle.std.specs.Prelude.{ℕ, ◌+◌, ◌≤◌, ◌<◌, ◌≡◌, true, not, cond, ◌≢◌, List, [], ◌∷◌, length, eqb, Result, Ok, Err}
+use Rattle.terms.specs.Names.{sound_book}
 use Rattle.fields.specs.Table.{tenant, view, sound_table, live, owner_at, process_with, waits, Openable}
 use Rattle.fields.specs.declared.mark.Mark.{Mark}
 use Rattle.rules.specs.Rule.Frame.{Frame, frames, over}
@@ -25,14 +25,10 @@ pub record Wrote (o : List ℕ) (at : ℕ) (x o' : List ℕ) (r : ℕ) : Type 0 
   pub next : r ≡ at + length x
   pub bytes : o' ≡ over o at x
 
--- as they are, or folded
-unfoldable pub cased : Bool → List ℕ → List ℕ
-cased folding x = cond folding (folded x) x
-
--- the bytes of x, so cased; the room is as long as it was
-pub record Put (o : List ℕ) (at : ℕ) (folding : Bool) (x o' : List ℕ) (r : ℕ) : Type 0 where
+-- and the room is as long as it was
+pub record Put (o : List ℕ) (at : ℕ) (x o' : List ℕ) (r : ℕ) : Type 0 where
   pub next : r ≡ at + length x
-  pub bytes : o' ≡ over o at (cased folding x)
+  pub bytes : o' ≡ over o at x
   pub same : length o' ≡ length o
 
 -- how many bytes frames have, by their payloads

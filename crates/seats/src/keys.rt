@@ -1,19 +1,20 @@
 // A seat's keys and mouse.
 ghost use Rattle.std.specs.Prelude.{◌≡◌, [], ◌∷◌, ℕ, ◌+◌, ◌≤◌, length};
 ghost use Rattle.terms.specs.Base.{Range};
+ghost use Rattle.fields.specs.Table.{TabLive};
+ghost use Rattle.frames.specs.Action.{party_of, tag_of};
 ghost use Rattle.rules.specs.Sheet.{framed, desk_at, select_rule, close_rule, pass_rule, plain, key_rule, render, bar};
 ghost use Rattle.rules.specs.Sheet.{stop_process};
-ghost use Rattle.rules.specs.Inner.{Sent, Fits, Replied, Ready, ReadyTab, only, close_actions, Shows, bar_of};
+ghost use Rattle.rules.specs.Inner.{Sent, Replied, Ready, ReadyTab, only, close_actions, Shows, bar_of};
 
 use fields::layout::selected;
-use frames::action::{BAR, HOST, KEY, RENDER, SCREEN, STOP_PROCESS, STOP_TAB, TAB};
+use frames::action::Action;
 use frames::answer::done;
 use frames::desk::{id, is_last, process, suffix};
 use frames::send::{send_bare, send_raw};
 use rules::verdict::{Done, Refusal};
 use soundness::tab::is_live;
 use table::close::pick;
-use terms::byte::{is_within, wide};
 
 // The bar of a seat: the suffix of the tab in slot k, or empty for slot 0.
 fn send_bar(t: &[u8], out: &mut [u8], at: usize, s: usize, k: usize) -> usize
@@ -21,9 +22,9 @@ fn send_bar(t: &[u8], out: &mut [u8], at: usize, s: usize, k: usize) -> usize
     ensures { Sent out.old at (bar s (bar_of (desk_at t.now s) k) ∷ []) out.new result }
 {
     if k == 0 {
-        return send_bare(out, at, SCREEN, s, BAR);
+        return send_bare(out, at, Action::Bar, s);
     }
-    send_raw(out, at, SCREEN, s, BAR, suffix(t, s, k))
+    send_raw(out, at, Action::Bar, s, suffix(t, s, k))
 }
 
 // Render, bar.
@@ -31,7 +32,7 @@ fn send_selected(t: &[u8], out: &mut [u8], s: usize, k: usize) -> usize
     requires { ReadyTab t.now out.old s k }
     ensures { Sent out.old 0 (render ((desk_at t.now s).id k) ∷ bar s ((desk_at t.now s).suffix k) ∷ []) out.new result }
 {
-    let a = send_bare(out, 0, TAB, id(t, s, k), RENDER);
+    let a = send_bare(out, 0, Action::Render, id(t, s, k));
     send_bar(t, out, a, s, k)
 }
 
@@ -48,24 +49,24 @@ fn select(t: &mut [u8], out: &mut [u8], s: usize, k: usize) -> Result<Done, Refu
     done(2, n)
 }
 
-// Stop process, if the tab was its last.
-fn send_stop(out: &mut [u8], at: usize, last: bool, n: usize) -> usize
-    requires { Fits out.old at n 0 }
-    ensures { Sent out.old at (only last (stop_process n)) out.new result }
+// Stop process, if the tab is its last.
+fn send_stop(t: &[u8], out: &mut [u8], at: usize, s: usize, k: usize) -> usize
+    requires { TabLive t.now s k × (at + 10 ≤ length out.old) }
+    ensures { Sent out.old at (only ((desk_at t.now s).last_tab k) (stop_process ((desk_at t.now s).process k))) out.new result }
 {
-    if !last {
+    if !is_last(t, s, k) {
         return at;
     }
-    send_bare(out, at, HOST, n, STOP_PROCESS)
+    send_bare(out, at, Action::StopProcess, process(t, s, k))
 }
 
-// Stop tab, stop process if the tab was its last, empty bar.
-fn send_closed(t: &[u8], out: &mut [u8], s: usize, k: usize, last: bool) -> usize
-    requires { ReadyTab t.now out.old s k × (last ≡ (desk_at t.now s).last_tab k) }
+// Stop tab, stop process if the tab is its last, empty bar.
+fn send_closed(t: &[u8], out: &mut [u8], s: usize, k: usize) -> usize
+    requires { ReadyTab t.now out.old s k }
     ensures { Sent out.old 0 (close_actions (desk_at t.now s) k) out.new result }
 {
-    let a = send_bare(out, 0, HOST, id(t, s, k), STOP_TAB);
-    let b = send_stop(out, a, last, process(t, s, k));
+    let a = send_bare(out, 0, Action::StopTab, id(t, s, k));
+    let b = send_stop(t, out, a, s, k);
     send_bar(t, out, b, s, 0)
 }
 
@@ -79,53 +80,40 @@ fn close(t: &mut [u8], out: &mut [u8], s: usize) -> Result<Done, Refusal>
         return done(0, 0);
     }
     let last = is_last(t, s, k);
-    let n = send_closed(t, out, s, k, last);
+    let n = send_closed(t, out, s, k);
     table::close::close(t, s);
-    if last {
-        return done(3, n);
-    }
-    done(2, n)
+    done(if last { 3 } else { 2 }, n)
 }
 
 // What goes to the selected tab.
-pub fn pass(t: &[u8], out: &mut [u8], s: usize, tag: u8, x: &[u8]) -> Result<Done, Refusal>
+pub fn pass(t: &[u8], out: &mut [u8], s: usize, action: Action, x: &[u8]) -> Result<Done, Refusal>
     requires { Ready t.now out.old s × (length x.now ≤ 4096) }
-    ensures { Replied t.now s (pass_rule (desk_at t.now s) (λ (i : ℕ). framed 2 i tag x.now)) out.old t.now out.new result }
+    ensures { Replied t.now s (pass_rule (desk_at t.now s) (λ (i : ℕ). framed (party_of action) i (tag_of action) x.now)) out.old t.now out.new result }
 {
     let k = selected(t, s);
     if k == 0 {
         return done(0, 0);
     }
-    let n = send_raw(out, 0, TAB, id(t, s, k), tag, x);
+    let n = send_raw(out, 0, action, id(t, s, k), x);
     done(1, n)
 }
 
 // Backspace, tab, line feed, return, and what is seen.
+#[tactic(auto, using(rules::proofs::Steps::Keys::plain_is, std::proofs::lemmas::Bool::Decides::nat_tests))]
 fn is_plain(k: u8) -> bool
     ensures { result ≡ plain k }
 {
-    if is_within(8, 10, k) {
-        return true;
-    }
-    if k == 13 {
-        return true;
-    }
-    is_within(32, 126, k)
+    matches!(k, 8..=10 | 13 | 32..=126)
 }
 
 pub fn key(t: &mut [u8], out: &mut [u8], s: usize, k: u8) -> Result<Done, Refusal>
     requires { Ready t.old out.old s }
     ensures { Replied t.old s (key_rule (desk_at t.old s) k) out.old t.new out.new result }
 {
-    if is_within(14, 23, k) {
-        return select(t, out, s, wide(k) - 13);
+    match k {
+        14..=23 => select(t, out, s, usize::from(k) - 13),
+        25 => close(t, out, s),
+        _ if is_plain(k) => pass(t, out, s, Action::Key, &[k]),
+        _ => Err(Refusal::BadKey),
     }
-    if k == 25 {
-        return close(t, out, s);
-    }
-    if !is_plain(k) {
-        return Err(Refusal::BadKey);
-    }
-    let byte = [k];
-    pass(t, out, s, KEY, &byte)
 }

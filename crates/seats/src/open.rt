@@ -7,7 +7,7 @@ ghost use Rattle.rules.specs.Inner.{Sent, Fits, Replied, Ready, book_number, ope
 ghost use Rattle.rules.specs.Inner.{Taking, Found, number_given};
 
 use fields::layout::{is_spent, last, opens, tab_id};
-use frames::action::{BAR, GO, HOST, SCREEN, START_PROCESS, START_TAB, TAB};
+use frames::action::Action;
 use frames::answer::done;
 use frames::send::{send_bare, send_name};
 use rules::verdict::{Done, Refusal};
@@ -57,7 +57,7 @@ fn send_process(out: &mut [u8], new: bool, n: usize, owner: u8, x: &[u8]) -> usi
         return 0;
     }
     let lead = [owner];
-    send_name(out, 0, HOST, n, START_PROCESS, &lead, x)
+    send_name(out, 0, Action::StartProcess, n, &lead, x)
 }
 
 // Start tab, go, bar.
@@ -65,9 +65,9 @@ fn send_tab(out: &mut [u8], at: usize, s: usize, i: usize, x: &[u8]) -> usize
     requires { (at + 200 ≤ length out.old) × (length x.now ≤ 64) × (s ≤ 8) × (i < 4294967296) }
     ensures { Sent out.old at (start_tab i ∷ go i (folded x.now) ∷ bar s (folded x.now) ∷ []) out.new result }
 {
-    let a = send_bare(out, at, HOST, i, START_TAB);
-    let b = send_name(out, a, TAB, i, GO, b"", x);
-    send_name(out, b, SCREEN, s, BAR, b"", x)
+    let a = send_bare(out, at, Action::StartTab, i);
+    let b = send_name(out, a, Action::Go, i, b"", x);
+    send_name(out, b, Action::Bar, s, b"", x)
 }
 
 // All of them, where p is the row of the owner's process with this suffix, or 0.

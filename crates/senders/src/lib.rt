@@ -6,7 +6,7 @@ ghost use Rattle.rules.specs.declared.event.Event.TheVariants.{Seat, Tab, Proces
 ghost use Rattle.rules.specs.Sheet.{part, desk_at, seat_rule, tab_rule, event_rule};
 ghost use Rattle.rules.specs.Inner.{Decided, Replied, Ready, ReadyTab, PartIn, SeatIn, TabIn, EventIn, Able};
 
-use frames::action::MOUSE;
+use frames::action::Action;
 use rules::event::{Delivery, Event, Part, SeatMessage, TabMessage};
 use rules::verdict::{Done, Refusal};
 use seats::keys::{key, pass};
@@ -38,7 +38,7 @@ fn from_seat(
 {
     match m {
         SeatMessage::Key(k) => key(t, out, s, k),
-        SeatMessage::Mouse(p) => pass(t, out, s, MOUSE, part_of(e, p)),
+        SeatMessage::Mouse(p) => pass(t, out, s, Action::Mouse, part_of(e, p)),
         SeatMessage::Open(p) => open(t, b, out, s, part_of(e, p)),
     }
 }

@@ -2,11 +2,12 @@
 ghost use Rattle.std.specs.Prelude.{◌≡◌, ◌&&◌, [], ◌∷◌, ◌≤◌, length, eqb};
 ghost use Rattle.fields.specs.Table.{TabLive};
 ghost use Rattle.fields.specs.declared.mark.Mark.TheVariants.{Cookie};
+ghost use Rattle.frames.specs.Action.{party_of, tag_of};
 ghost use Rattle.rules.specs.Sheet.{framed, desk_at, clear_mark, reply, result_rule, document_rule};
 ghost use Rattle.rules.specs.Inner.{Replied, ReadyTab, Awaited};
 
 use fields::mark::Mark;
-use frames::action::{COOKIE, DOCUMENT, TAB};
+use frames::action::Action;
 use frames::answer::done;
 use frames::desk::{id, process};
 use frames::send::send_raw;
@@ -14,16 +15,13 @@ use rules::verdict::{Done, Refusal};
 use table::mark::{clear_mark, is_waiting};
 
 // The tab hangs on process n and waits for a cookie.
+#[tactic(auto, using(rules::proofs::Steps::Desk::waits_is, std::proofs::lemmas::Bool::Decides::nat_tests))]
 fn is_asked(t: &[u8], s: usize, k: usize, n: usize) -> bool
     requires { TabLive t.now s k }
     ensures { result ≡ eqb ((desk_at t.now s).process k) n && (desk_at t.now s).waits k Cookie }
 {
     let on = process(t, s, k);
-    let another = on != n;
-    if another {
-        return false;
-    }
-    is_waiting(t, s, k, Mark::Cookie)
+    on == n && is_waiting(t, s, k, Mark::Cookie)
 }
 
 // To a tab that waits for it, which then waits no more.
@@ -32,14 +30,14 @@ fn pass_on(
     out: &mut [u8],
     s: usize,
     k: usize,
-    tag: u8,
+    action: Action,
     m: Mark,
     x: &[u8],
 ) -> Result<Done, Refusal>
     requires { Awaited t.old out.old s k m x.now }
-    ensures { Replied t.old s (reply (framed 2 ((desk_at t.old s).id k) tag x.now ∷ []) (clear_mark k m)) out.old t.new out.new result }
+    ensures { Replied t.old s (reply (framed (party_of action) ((desk_at t.old s).id k) (tag_of action) x.now ∷ []) (clear_mark k m)) out.old t.new out.new result }
 {
-    let n = send_raw(out, 0, TAB, id(t, s, k), tag, x);
+    let n = send_raw(out, 0, action, id(t, s, k), x);
     clear_mark(t, s, k, m);
     done(1, n)
 }
@@ -58,7 +56,7 @@ pub fn result(
     if !is_asked(t, s, k, n) {
         return Err(Refusal::NotAwaited);
     }
-    pass_on(t, out, s, k, COOKIE, Mark::Cookie, x)
+    pass_on(t, out, s, k, Action::Cookie, Mark::Cookie, x)
 }
 
 pub fn document(t: &mut [u8], out: &mut [u8], s: usize, k: usize, x: &[u8]) -> Result<Done, Refusal>
@@ -68,5 +66,5 @@ pub fn document(t: &mut [u8], out: &mut [u8], s: usize, k: usize, x: &[u8]) -> R
     if !is_waiting(t, s, k, Mark::Document) {
         return Err(Refusal::NotAwaited);
     }
-    pass_on(t, out, s, k, DOCUMENT, Mark::Document, x)
+    pass_on(t, out, s, k, Action::Document, Mark::Document, x)
 }

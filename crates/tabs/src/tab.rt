@@ -9,12 +9,9 @@ ghost use Rattle.rules.specs.Inner.{Replied, ReadyTab};
 use crate::allow::{is_cookie_domain, is_socket_allowed, is_url};
 use fields::layout::selected;
 use fields::mark::Mark;
-use frames::action::{
-    ERROR, FETCH, GET, HOST, NETWORK, OPEN_SOCKET, PAINT, PROCESS, SCREEN, SET, TAB,
-};
+use frames::action::Action;
 use frames::answer::done;
 use frames::desk::{id, process, suffix};
-use frames::put::{four, two};
 use frames::send::{send, send_bare, send_name, send_raw};
 use rules::verdict::{Done, Refusal};
 use table::mark::{is_waiting, set_mark};
@@ -24,7 +21,7 @@ fn deny(t: &[u8], out: &mut [u8], s: usize, k: usize) -> Result<Done, Refusal>
     requires { ReadyTab t.now out.old s k }
     ensures { Replied t.now s (reply (error ((desk_at t.now s).id k) ∷ []) stay) out.old t.now out.new result }
 {
-    let n = send_bare(out, 0, TAB, id(t, s, k), ERROR);
+    let n = send_bare(out, 0, Action::Error, id(t, s, k));
     done(1, n)
 }
 
@@ -35,7 +32,7 @@ pub fn display(t: &[u8], out: &mut [u8], s: usize, k: usize, x: &[u8]) -> Result
     if selected(t, s) != k {
         return done(0, 0);
     }
-    let n = send_raw(out, 0, SCREEN, s, PAINT, x);
+    let n = send_raw(out, 0, Action::Paint, s, x);
     done(1, n)
 }
 
@@ -53,19 +50,17 @@ pub fn socket(
     if !is_socket_allowed(port, host, suffix(t, s, k)) {
         return deny(t, out, s, k);
     }
-    let lead = two(port);
-    let n = send_name(out, 0, HOST, id(t, s, k), OPEN_SOCKET, &lead, host);
+    let lead = (port as u16).to_be_bytes();
+    let n = send_name(out, 0, Action::OpenSocket, id(t, s, k), &lead, host);
     done(1, n)
 }
 
+#[tactic(auto, using(rules::proofs::Steps::Desk::waits_is))]
 fn may_fetch(t: &[u8], s: usize, k: usize, u: &[u8]) -> bool
     requires { TabLive t.now s k }
     ensures { result ≡ is_url u.now && not ((desk_at t.now s).waits k Document) }
 {
-    if !is_url(u) {
-        return false;
-    }
-    !is_waiting(t, s, k, Mark::Document)
+    is_url(u) && !is_waiting(t, s, k, Mark::Document)
 }
 
 pub fn url(t: &mut [u8], out: &mut [u8], s: usize, k: usize, u: &[u8]) -> Result<Done, Refusal>
@@ -75,7 +70,7 @@ pub fn url(t: &mut [u8], out: &mut [u8], s: usize, k: usize, u: &[u8]) -> Result
     if !may_fetch(t, s, k, u) {
         return deny(t, out, s, k);
     }
-    let n = send_raw(out, 0, NETWORK, id(t, s, k), FETCH, u);
+    let n = send_raw(out, 0, Action::Fetch, id(t, s, k), u);
     set_mark(t, s, k, Mark::Document);
     done(1, n)
 }
@@ -95,18 +90,16 @@ pub fn store(
         return deny(t, out, s, k);
     }
     let lead = [domain.len() as u8];
-    let n = send(out, 0, PROCESS, process(t, s, k), SET, &lead, domain, x);
+    let n = send(out, 0, Action::Set, process(t, s, k), &lead, domain, x);
     done(1, n)
 }
 
+#[tactic(auto, using(rules::proofs::Steps::Desk::waits_is))]
 fn may_retrieve(t: &[u8], s: usize, k: usize, domain: &[u8]) -> bool
     requires { TabLive t.now s k }
     ensures { result ≡ cookie_domain domain.now ((desk_at t.now s).suffix k) && not ((desk_at t.now s).waits k Cookie) }
 {
-    if !is_cookie_domain(domain, suffix(t, s, k)) {
-        return false;
-    }
-    !is_waiting(t, s, k, Mark::Cookie)
+    is_cookie_domain(domain, suffix(t, s, k)) && !is_waiting(t, s, k, Mark::Cookie)
 }
 
 pub fn retrieve(
@@ -122,8 +115,8 @@ pub fn retrieve(
     if !may_retrieve(t, s, k, domain) {
         return deny(t, out, s, k);
     }
-    let lead = four(id(t, s, k));
-    let n = send_name(out, 0, PROCESS, process(t, s, k), GET, &lead, domain);
+    let lead = (id(t, s, k) as u32).to_be_bytes();
+    let n = send_name(out, 0, Action::Get, process(t, s, k), &lead, domain);
     set_mark(t, s, k, Mark::Cookie);
     done(1, n)
 }

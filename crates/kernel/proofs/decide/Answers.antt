@@ -23,7 +23,7 @@ returns-in_err-e c =
 pub serve-requires : goal.serve-requires
 serve-requires c = (
   record { sound = sym c.sound.ensures ∙ c.if-not-sound.false; roomy = c.if-short.false },
-  reading_in c.args.event.now _ (λ i. omega (arith, c.shared_slice_known-2-1.given i))
+  reading_in c.args.event.now _ (λ i. omega (arith, (c.type_inv.event i).fits))
       (sym c.read.ensures ∙ c.in_ok-e.ensures.ok_part),
 )
 

@@ -18,14 +18,14 @@ module _ {g : Result Done Refusal} where
   unfolding packed
   packed_refused why e a f = rw (e, f, a) (omega arith)
 
-pub number_in_is : (r : ℕ) → r % 256 ≡ number_in r
+pub number_in_is : (r : ℕ) → number_in r ≡ r % 256
 unfolding number_in
 number_in_is r = refl
 
-pub actions_in_is : (r : ℕ) → r / 256 % 256 ≡ actions_in r
+pub actions_in_is : (r : ℕ) → actions_in r ≡ r / 256 % 256
 unfolding actions_in
 actions_in_is r = refl
 
-pub bytes_in_is : (r : ℕ) → r / 65536 % 65536 ≡ bytes_in r
+pub bytes_in_is : (r : ℕ) → bytes_in r ≡ r / 65536 % 65536
 unfolding bytes_in
 bytes_in_is r = refl

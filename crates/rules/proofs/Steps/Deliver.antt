@@ -1,7 +1,7 @@
 -- What src/deliver.rt leaves at each of its exits. Assumes nothing.
-use Rattle.std.specs.Prelude.{ℕ, ◌≡◌, Bool, true, false, ◌&&◌, ◌≢◌, List, [], ◌∷◌, eqb, Result, Err}
+use Rattle.std.specs.Prelude.{ℕ, ◌≡◌, Bool, true, false, ◌&&◌, List, [], ◌∷◌, eqb, Result, Err}
 use Rattle.std.proofs.Math.Path.{refl}
-use Rattle.std.proofs.Common.{sym, ◌∙◌, eq-eqb, ne_eqb}
+use Rattle.std.proofs.Common.{sym, ◌∙◌}
 use Rattle.terms.specs.Laws.Bools.{and_right}
 use Rattle.fields.specs.Table.{view, waits, unmarked}
 use Rattle.fields.specs.declared.mark.Mark.{Mark}
@@ -20,15 +20,6 @@ module _ (t : List ℕ) (s k : ℕ) where
   -- ---- result
 
   module _ (n : ℕ) where
-    pub asked_other : {p : ℕ} → p ≡ (desk_at t s).process k → p ≢ n
-        → false ≡ eqb ((desk_at t s).process k) n && (desk_at t s).waits k Cookie
-    asked_other e h = rw (ne_eqb ((desk_at t s).process k) n (λ z. h (e ∙ z)))
-
-    pub asked_own : {p : ℕ} {w : Bool} → p ≡ (desk_at t s).process k → p ≡ n → w ≡ waits (view t) s k Cookie
-        → w ≡ eqb ((desk_at t s).process k) n && (desk_at t s).waits k Cookie
-    unfolding desk
-    asked_own e h f = rw (eq-eqb ((desk_at t s).process k) n (sym e ∙ h)) f
-
     pub asked_waits : {r : Bool} → r ≡ eqb ((desk_at t s).process k) n && (desk_at t s).waits k Cookie → r ≡ true
         → waits (view t) s k Cookie ≡ true
     unfolding desk
@@ -62,8 +53,8 @@ module _ (t : List ℕ) (s k : ℕ) where
 
   -- ---- what is passed on
 
-  pub passed : {o t' o' : List ℕ} {i tag n : ℕ} {g : Result Done Refusal} (m : Mark) (x : List ℕ) → i ≡ (desk_at t s).id k
-      → Sent o 0 (framed 2 i tag x ∷ []) o' n → t' ≡ unmarked t s k m → Says 0 1 n g
-      → Replied t s (reply (framed 2 ((desk_at t s).id k) tag x ∷ []) (clear_mark k m)) o t' o' g
+  pub passed : {o t' o' : List ℕ} {i party tag n : ℕ} {g : Result Done Refusal} (m : Mark) (x : List ℕ) → i ≡ (desk_at t s).id k
+      → Sent o 0 (framed party i tag x ∷ []) o' n → t' ≡ unmarked t s k m → Says 0 1 n g
+      → Replied t s (reply (framed party ((desk_at t s).id k) tag x ∷ []) (clear_mark k m)) o t' o' g
   unfolding changed
   passed m x j w f = replied_done (clear_mark k m) refl (sent_id j w) f

@@ -1,10 +1,11 @@
 -- A desk's fields as what the table shows, and what a live tab of a sound table gives to them. Assumes nothing.
 use Rattle.std.specs.Prelude.{ℕ, ◌≤◌, ◌<◌, ◌≡◌, ◌≢◌, List, length}
-use Rattle.std.proofs.Math.Path.{ap}
+use Rattle.std.proofs.Math.Path.{refl, ap}
 use Rattle.std.proofs.Common.{◌∙◌, arith}
 use Rattle.std.proofs.Math.Dec.{eqb}
 use Rattle.terms.specs.Base.{Range}
-use Rattle.fields.specs.Table.{View, view, selected, serial, row, number, tabs, tab_id, name_of}
+use Rattle.fields.specs.Table.{View, view, selected, serial, row, number, tabs, tab_id, name_of, waits}
+use Rattle.fields.specs.declared.mark.Mark.{Mark}
 use Rattle.fields.specs.Table.{SeatOf, TabOf, RowOf, TabLive, Closable, most_opens}
 use Rattle.fields.specs.Laws.Asked.{sound_seat, live_tab, live_row, live_serial, let_seat, selected_tab}
 use Rattle.fields.specs.Laws.There.{live_there}
@@ -18,6 +19,10 @@ module _ (v : View) (s k : ℕ) where
   pub id_is : {n r : ℕ} → n ≡ v (serial s k) → r ≡ tab_id s n → r ≡ (desk v s).id k
   unfolding desk
   id_is e f = f ∙ ap (tab_id s) e
+
+  pub waits_is : (m : Mark) → (desk v s).waits k m ≡ waits v s k m
+  unfolding desk
+  waits_is m = refl
 
   pub suffix_is : {p : ℕ} {x : List ℕ} → p ≡ v (row s k) → x ≡ name_of v p → x ≡ (desk v s).suffix k
   unfolding desk
@@ -78,6 +83,3 @@ shows_live w = record { sound = w.sound; seat = seat_lt w; there = λ h. w.there
 
 pub shows_none : {t o : List ℕ} {s k j : ℕ} → ReadyTab t o s k → j ≡ 0 → Shows t s j
 shows_none w e = record { sound = w.sound; seat = seat_lt w; there = λ h. absurd (h e) }
-
-pub shows_tab : {t : List ℕ} {s k : ℕ} → Shows t s k → k ≢ 0 → TabLive t s k
-shows_tab w h = record { sound = w.sound; there = w.there h }

@@ -1,11 +1,11 @@
 -- What src/keys.rt sends and leaves at each of its exits. Assumes nothing.
-use Rattle.std.specs.Prelude.{ℕ, ◌-◌, ◌%◌, ◌<◌, ◌≡◌, Bool, true, false, cond, ◌≢◌, List, [], ◌∷◌, ◌++◌, length, Result, Err}
+use Rattle.std.specs.Prelude.{ℕ, ◌-◌, ◌%◌, ◌<◌, ◌≤◌, ◌⊎◌, ◌≡◌, Bool, true, false, cond, ◌≢◌, ◌&&◌, ◌||◌, leb, eqb, List, [], ◌∷◌, ◌++◌, length, Result, Err}
 use Rattle.std.proofs.Math.Path.{refl, sym, ap}
-use Rattle.std.proofs.Common.{subst, ◌∙◌}
+use Rattle.std.proofs.Common.{subst, ◌∙◌, inl, inr}
 use native.Mathlib.Omega.{arith}
 use borrow.Author.Tests.{eq-eqb, ne_eqb}
-use Rattle.terms.specs.Base.{within, Range}
-use Rattle.terms.specs.Laws.Bools.{within_at}
+use Rattle.terms.specs.Base.{within}
+use Rattle.terms.specs.Laws.Bools.{within_in, within_low, within_high}
 use Rattle.fields.specs.Table.{view, selected, live, picked, closed}
 use Rattle.fields.specs.Laws.There.{live_there}
 use Rattle.rules.specs.Rule.Frame.{be, framed}
@@ -61,22 +61,20 @@ module _ {t : List ℕ} {s : ℕ} where
 
 -- ---- close
 
-pub closed_sent : {t o o₁ o₂ o₃ : List ℕ} {s k i a b r : ℕ} (l : Bool) (p : ℕ) → ReadyTab t o s k
-    → Sent o 0 (framed 5 i 2 [] ∷ []) o₁ a → Sent o₁ a (only l (stop_process p)) o₂ b
-    → Sent o₂ b (bar s (bar_of (desk_at t s) 0) ∷ []) o₃ r
-    → i ≡ (desk_at t s).id k → l ≡ (desk_at t s).last_tab k → p ≡ (desk_at t s).process k
+pub closed_sent : {t o o₁ o₂ o₃ : List ℕ} {s k i a b r : ℕ} → ReadyTab t o s k
+    → Sent o 0 (framed 5 i 2 [] ∷ []) o₁ a
+    → Sent o₁ a (only ((desk_at t s).last_tab k) (stop_process ((desk_at t s).process k))) o₂ b
+    → Sent o₂ b (bar s (bar_of (desk_at t s) 0) ∷ []) o₃ r → i ≡ (desk_at t s).id k
     → Sent o 0 (close_actions (desk_at t s) k) o₃ r
 unfolding close_actions bar_of desk
-closed_sent {t} {o} {o₁} {o₂} {o₃} {s} {k} {i} {a} {b} {r} l p w f g h e c q =
+closed_sent {t} {o} {o₁} {o₂} {o₃} {s} {k} {i} {a} {b} {r} w f g h e =
     let d = desk_at t s in
     let m = w.roomy in
-    let z = size_only l (stop_process p) in
+    let z = size_only (d.last_tab k) (stop_process (d.process k)) in
     let x = f.next in
     let y = f.same in
     subst (λ (j : ℕ). Sent o 0 (stop_tab j ∷ (only (d.last_tab k) (stop_process (d.process k)) ++ (bar s [] ∷ []))) o₃ r) e
-    (sent_then (omega arith) f
-    (subst (λ (j : ℕ). Sent o₁ a (only (d.last_tab k) (stop_process j) ++ (bar s [] ∷ [])) o₃ r) q
-    (subst (λ (c : Bool). Sent o₁ a (only c (stop_process p) ++ (bar s [] ∷ [])) o₃ r) c (sent_then (omega arith) g h))))
+    (sent_then (omega arith) f (sent_then (omega arith) g h))
 
 close_is : (t : List ℕ) (s k : ℕ) → k ≡ view t (selected s) → k ≢ 0
     → close_rule (desk_at t s) ≡ reply (close_actions (desk_at t s) k) close_tab
@@ -106,65 +104,55 @@ module _ {t : List ℕ} {s : ℕ} where
 
 -- ---- what goes to the selected tab
 
-module _ {t : List ℕ} {s : ℕ} (tag : ℕ) (x : List ℕ) where
+module _ {t : List ℕ} {s : ℕ} (party tag : ℕ) (x : List ℕ) where
   pub pass_none : {o : List ℕ} {k : ℕ} {g : Result Done Refusal} → k ≡ view t (selected s) → k ≡ 0 → Says 0 0 0 g
-      → Replied t s (pass_rule (desk_at t s) (λ (i : ℕ). framed 2 i tag x)) o t o g
+      → Replied t s (pass_rule (desk_at t s) (λ (i : ℕ). framed party i tag x)) o t o g
   unfolding pass_rule desk
   pass_none e z = replied_idle (rw (eq-eqb (view t (selected s)) 0 (sym e ∙ z)))
 
   pub pass_done : {o o' : List ℕ} {k i n : ℕ} {g : Result Done Refusal} → k ≡ view t (selected s) → k ≢ 0 → i ≡ (desk_at t s).id k
-      → Sent o 0 (framed 2 i tag x ∷ []) o' n → Says 0 1 n g
-      → Replied t s (pass_rule (desk_at t s) (λ (i : ℕ). framed 2 i tag x)) o t o' g
+      → Sent o 0 (framed party i tag x ∷ []) o' n → Says 0 1 n g
+      → Replied t s (pass_rule (desk_at t s) (λ (i : ℕ). framed party i tag x)) o t o' g
   unfolding pass_rule desk changed
   pass_done {k = k} {i = i} e h j w y =
       replied_done stay
       (rw (ne_eqb (view t (selected s)) 0 (λ z. h (e ∙ z)))
-      (ap (λ (j : ℕ). reply (framed 2 j tag x ∷ []) stay)
+      (ap (λ (j : ℕ). reply (framed party j tag x ∷ []) stay)
       (sym (j ∙ ap (λ (q : ℕ). (desk_at t s).id q) e))))
       w refl y
 
 -- ---- keys
 
-pub key_slot : {k w : ℕ} → w ≡ k → within 14 23 k ≡ true → Range 1 10 (w - 13)
-key_slot {k} {w} e h =
-    let r = within_at 14 23 k h in
-    let a = r.low in
-    let b = r.high in
-    record { low = omega arith; high = omega arith }
+-- no key of F1 to F10
+other_key : (k : ℕ) → (k < 14) ⊎ (23 < k) → within 14 23 k ≡ false
+other_key k (inl l) = within_low 14 23 k l
+other_key k (inr h) = within_high 14 23 k h
 
-pub plain_low : (k : ℕ) → within 8 10 k ≡ true → true ≡ plain k
+pub plain_is : (k : ℕ) → plain k ≡ leb 8 k && leb k 10 || eqb k 13 || leb 32 k && leb k 126
 unfolding plain
-plain_low k e = rw e
+plain_is k = refl
 
-pub plain_return : (k : ℕ) → within 8 10 k ≡ false → k ≡ 13 → true ≡ plain k
-unfolding plain
-plain_return k e h = rw (e, eq-eqb k 13 h)
-
-pub plain_seen : (k : ℕ) → within 8 10 k ≡ false → k ≢ 13 → within 32 126 k ≡ plain k
-unfolding plain
-plain_seen k e h = rw (e, ne_eqb k 13 h)
-
-pub key_bad : {t o : List ℕ} {s : ℕ} (k : ℕ) → within 14 23 k ≡ false → k ≢ 25 → plain k ≡ false
+pub key_bad : {t o : List ℕ} {s : ℕ} {r : Bool} (k : ℕ) → (k < 14) ⊎ (23 < k) → k ≢ 25 → r ≡ plain k → r ≡ false
     → Replied t s (key_rule (desk_at t s) k) o t o (Err BadKey)
 unfolding key_rule
-key_bad k h e p = replied_refused BadKey (rw (h, ne_eqb k 25 e, p))
+key_bad k h e p z = replied_refused BadKey (rw (other_key k h, ne_eqb k 25 e, sym p ∙ z))
 
 module _ {t o t' o' : List ℕ} {s : ℕ} {g : Result Done Refusal} (k : ℕ) where
-  pub key_select : {w : ℕ} → w ≡ k → within 14 23 k ≡ true → Replied t s (select_rule (desk_at t s) (w - 13)) o t' o' g
+  pub key_select : {w : ℕ} → w ≡ k → 14 ≤ k → k ≤ 23 → Replied t s (select_rule (desk_at t s) (w - 13)) o t' o' g
       → Replied t s (key_rule (desk_at t s) k) o t' o' g
   unfolding key_rule
-  key_select {w} e h r = rw h (subst (λ (j : ℕ). Replied t s (select_rule (desk_at t s) (j - 13)) o t' o' g) e r)
+  key_select {w} e l h r = rw (within_in 14 23 k l h) (subst (λ (j : ℕ). Replied t s (select_rule (desk_at t s) (j - 13)) o t' o' g) e r)
 
-  pub key_close : within 14 23 k ≡ false → k ≡ 25 → Replied t s (close_rule (desk_at t s)) o t' o' g
+  pub key_close : k ≡ 25 → Replied t s (close_rule (desk_at t s)) o t' o' g
       → Replied t s (key_rule (desk_at t s) k) o t' o' g
   unfolding key_rule
-  key_close h e r = rw (h, eq-eqb k 25 e) r
+  key_close e r = rw e r
 
-  pub key_pass : within 14 23 k ≡ false → k ≢ 25 → plain k ≡ true → k < 256
+  pub key_pass : {p : Bool} → (k < 14) ⊎ (23 < k) → k ≢ 25 → p ≡ plain k → p ≡ true → k < 256
       → Replied t s (pass_rule (desk_at t s) (λ (i : ℕ). framed 2 i 3 (k ∷ []))) o t' o' g
       → Replied t s (key_rule (desk_at t s) k) o t' o' g
   unfolding key_rule be
-  key_pass h e p l r =
+  key_pass h e p z l r =
       let m : k ≡ k % 256 = omega arith in
-      rw (h, ne_eqb k 25 e, p)
+      rw (other_key k h, ne_eqb k 25 e, sym p ∙ z)
       (subst (λ (j : ℕ). Replied t s (pass_rule (desk_at t s) (λ (i : ℕ). framed 2 i 3 (j ∷ []))) o t' o' g) m r)

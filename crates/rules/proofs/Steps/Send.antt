@@ -1,18 +1,16 @@
 -- How what src/send.rt puts, part by part, comes to one frame. Assumes nothing.
-use Rattle.std.specs.Prelude.{ℕ, ◌+◌, ◌≡◌, Bool, true, false, List, [], ◌∷◌, ◌++◌, length}
+use Rattle.std.specs.Prelude.{ℕ, ◌+◌, ◌≡◌, List, [], ◌∷◌, ◌++◌, length}
 use Rattle.std.proofs.Common.{ap, sym, subst, ◌∙◌, append-nil, arith, length-append}
 use Rattle.terms.specs.Names.{folded}
 use Rattle.terms.specs.Laws.Fold.{length_folded, folded_nil}
 use Rattle.rules.specs.Rule.Frame.{framed, head, bytes}
-use Rattle.rules.specs.Held.{cased, Put, Wrote, Sent, Fits}
+use Rattle.rules.specs.Held.{Put, Wrote, Sent, Fits}
 use Rattle.rules.proofs.Laws.Wrote.{wrote_then}
 use Rattle.rules.proofs.Laws.Frame.{length_head}
 use Rattle.rules.proofs.Laws.Sent.{sent_one}
-use Rattle.rules.proofs.Steps.Put.{length_cased}
 
-put_wrote : {o : List ℕ} {at : ℕ} {f : Bool} {x o' : List ℕ} {r : ℕ} → Put o at f x o' r → Wrote o at (cased f x) o' r
-put_wrote {o} {at} {f} {x} w =
-    record { next = w.next ∙ ap (λ (n : ℕ). at + n) (sym (length_cased f x)); bytes = w.bytes }
+put_wrote : {o : List ℕ} {at : ℕ} {x o' : List ℕ} {r : ℕ} → Put o at x o' r → Wrote o at x o' r
+put_wrote w = record { next = w.next; bytes = w.bytes }
 
 -- ---- a frame
 
@@ -24,13 +22,13 @@ length_payload lead name rest =
     let d = length_folded name in
     omega (arith, a, b, d)
 
-pub send_one : {o o₁ o₂ o₃ o₄ h lead name rest : List ℕ} {at a b d r p i t : ℕ}
-    → Put o at false h o₁ a → Put o₁ a false lead o₂ b → Put o₂ b true name o₃ d → Put o₃ d false rest o₄ r
+pub send_one : (name : List ℕ) {o o₁ o₂ o₃ o₄ h lead rest : List ℕ} {at a b d r p i t : ℕ}
+    → Put o at h o₁ a → Put o₁ a lead o₂ b → Put o₂ b (folded name) o₃ d → Put o₃ d rest o₄ r
     → Fits o at i (length lead + length name + length rest)
     → h ≡ head p i t (length lead + length name + length rest)
     → Sent o at (framed p i t (lead ++ (folded name ++ rest)) ∷ []) o₄ r
-unfolding bytes cased
-send_one {o} {o₁} {o₂} {o₃} {o₄} {h} {lead} {name} {rest} {at} {a} {b} {d} {r} {p} {i} {t} w1 w2 w3 w4 fit eh =
+unfolding bytes
+send_one name {o} {o₁} {o₂} {o₃} {o₄} {h} {lead} {rest} {at} {a} {b} {d} {r} {p} {i} {t} w1 w2 w3 w4 fit eh =
     let ten : length h ≡ 10 = ap length eh ∙ length_head p i t (length lead + length name + length rest) in
     let n = length_payload lead name rest in
     let room = fit.room in
@@ -43,10 +41,6 @@ send_one {o} {o₁} {o₂} {o₃} {o₄} {h} {lead} {name} {rest} {at} {a} {b} {
     let v : Wrote o at (h ++ (lead ++ (folded name ++ rest))) o₄ r = wrote_then (omega arith) (put_wrote w1) s in
     sent_one (omega arith)
     (subst (λ (x : List ℕ). Wrote o at (x ++ (lead ++ (folded name ++ rest))) o₄ r) (eh ∙ ap (λ (k : ℕ). head p i t k) (sym n)) v)
-
--- a payload with an empty part
-pub name_last : (lead name : List ℕ) → lead ++ (folded name ++ []) ≡ lead ++ folded name
-name_last lead name = ap (λ (x : List ℕ). lead ++ x) (append-nil (folded name))
 
 pub raw_alone : (x : List ℕ) → x ++ (folded [] ++ []) ≡ x
 raw_alone x = ap (λ (y : List ℕ). x ++ (y ++ [])) folded_nil ∙ append-nil x

@@ -24,9 +24,9 @@ use Rattle.rules.specs.declared.verdict.Done.{Done}
 use Rattle.rules.specs.declared.verdict.Refusal.{Refusal}
 
 -- a frame to another id is the frame to that id
-pub sent_id : {o o' : List ℕ} {p i j t r : ℕ} {x : List ℕ} → i ≡ j → Sent o 0 (framed p i t x ∷ []) o' r
-    → Sent o 0 (framed p j t x ∷ []) o' r
-sent_id {o} {o'} {p} {i} {j} {t} {r} {x} e w = subst (λ (k : ℕ). Sent o 0 (framed p k t x ∷ []) o' r) e w
+pub sent_id : {o o' : List ℕ} {at p i j t r : ℕ} {x : List ℕ} → i ≡ j → Sent o at (framed p i t x ∷ []) o' r
+    → Sent o at (framed p j t x ∷ []) o' r
+sent_id {o} {o'} {at} {p} {i} {j} {t} {r} {x} e w = subst (λ (k : ℕ). Sent o at (framed p k t x ∷ []) o' r) e w
 
 module _ (t : List ℕ) (s k : ℕ) where
   -- ---- denied
@@ -67,14 +67,6 @@ module _ (t : List ℕ) (s k : ℕ) where
         (sent_payload _ _ (ap (λ (y : List ℕ). y ++ folded host) l) (sent_id j w)) refl
 
   -- ---- URL
-
-  pub may_not_fetch : (u : List ℕ) → is_url u ≡ false → false ≡ is_url u && not ((desk_at t s).waits k Document)
-  may_not_fetch u e = rw e
-
-  pub may_fetch : {w : Bool} (u : List ℕ) → is_url u ≡ true → w ≡ waits (view t) s k Document
-      → not w ≡ is_url u && not ((desk_at t s).waits k Document)
-  unfolding desk
-  may_fetch u e h = rw e (ap not h)
 
   pub fetch_quiet : {r : Bool} (u : List ℕ) → r ≡ is_url u && not ((desk_at t s).waits k Document) → r ≡ true
       → waits (view t) s k Document ≡ false
@@ -117,16 +109,6 @@ module _ (t : List ℕ) (s k : ℕ) where
   -- ---- retrieve
 
   module _ (domain : List ℕ) where
-    pub may_not_retrieve : {x : List ℕ} {r : Bool} → r ≡ cookie_domain domain x → x ≡ (desk_at t s).suffix k → r ≡ false
-        → false ≡ cookie_domain domain ((desk_at t s).suffix k) && not ((desk_at t s).waits k Cookie)
-    may_not_retrieve e x h = rw (ap (cookie_domain domain) (sym x) ∙ sym e ∙ h)
-
-    pub may_retrieve : {x : List ℕ} {r w : Bool} → r ≡ cookie_domain domain x → x ≡ (desk_at t s).suffix k → r ≡ true
-        → w ≡ waits (view t) s k Cookie
-        → not w ≡ cookie_domain domain ((desk_at t s).suffix k) && not ((desk_at t s).waits k Cookie)
-    unfolding desk
-    may_retrieve e x h y = rw (ap (cookie_domain domain) (sym x) ∙ sym e ∙ h) (ap not y)
-
     pub retrieve_short : {r : Bool} → r ≡ cookie_domain domain ((desk_at t s).suffix k) && not ((desk_at t s).waits k Cookie)
         → r ≡ true → length domain ≤ 253
     retrieve_short e h =

@@ -20,7 +20,7 @@ unfolding is_folded every
 folded_all [] = refl
 folded_all (x ∷ s) = ap (λ (b : Bool). eqb (lower x) x && b) (folded_all s)
 
-folded_map : (s : List ℕ) → folded s ≡ map to_ascii_lowercase s
+pub folded_map : (s : List ℕ) → folded s ≡ map to_ascii_lowercase s
 unfolding folded
 folded_map [] = refl
 folded_map (x ∷ s) = ap₂ (λ (y : ℕ) (l : List ℕ). y ∷ l) (lowered x) (folded_map s)

@@ -1,9 +1,8 @@
 -- Party and tag are bytes; id and size are four bytes each. Assumes nothing.
-use Rattle.std.proofs.Common.{arith}
 use Rattle.rules.proofs.Steps.Put.{head_is}
 use Rattle.frames.proofs.put.head_of.Goals as goal
 
 pub returns : goal.returns
 returns c =
-    head_is c.args.party c.args.id c.args.tag
-    c.args.size _ _ (omega arith) (omega arith) c.four-i.ensures c.four-n.ensures
+    rw (← c.party.ensures, ← c.tag.ensures)
+    (head_is _ c.args.id _ c.args.size _ _ c.party.type_inv c.tag.type_inv c.to_be_bytes-i.ensures c.to_be_bytes-n.ensures)

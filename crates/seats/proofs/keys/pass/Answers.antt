@@ -8,7 +8,7 @@ selected-k-requires c =
     seat_ready c.requires.0
 
 pub returns-then-k-eq0 : goal.returns-then-k-eq0
-returns-then-k-eq0 c = pass_none _ _ c.selected-k.ensures.0 c.if-k-eq0.true c.done.ensures
+returns-then-k-eq0 c = pass_none _ _ _ c.selected-k.ensures.0 c.if-k-eq0.true c.done.ensures
 
 pub id-requires : goal.id-requires
 id-requires c =
@@ -16,5 +16,5 @@ id-requires c =
 
 pub returns : goal.returns
 returns c =
-    pass_done _ _ c.selected-k.ensures.0 c.if-k-eq0.false c.id.ensures.0
+    pass_done _ _ _ c.selected-k.ensures.0 c.if-k-eq0.false c.id.ensures.0
     c.send_raw-n.ensures c.done-2.ensures

@@ -1,22 +1,14 @@
--- The loop keeps: what is left is seen exactly if all of it is. Assumes nothing.
-use Rattle.std.proofs.Common.{rules, sym, ◌∙◌}
-use Rattle.rules.proofs.Steps.Allow.{seen_start, seen_not, seen_more, seen_all}
+-- std's test of each byte is the rule's. Assumes nothing.
+use Rattle.std.proofs.Common.{rules, sym, tests, ◌∙◌}
+use Rattle.std.proofs.lemmas.Iterator.{YieldsList-from_slice}
+use Rattle.std.proofs.lemmas.Iterator.Search.{all_from_yields_List}
+use Rattle.terms.specs.Base.{within}
+use Rattle.rules.proofs.Steps.Allow.{seen_is}
 use Rattle.tabs.proofs.allow.are_seen.Goals as goal
 
-pub loop-j-init : goal.loop-j-init
-loop-j-init c = (search rules, seen_start _)
-
-pub returns-then-not-is_within : goal.returns-then-not-is_within
-returns-then-not-is_within c =
-    sym (c.loop-j.invariant.1
-    ∙ seen_not _ _ c.loop-j-test.true c.is_within.ensures c.if-not-is_within.true)
-
-pub loop-j-preserved : goal.loop-j-preserved
-loop-j-preserved c = (
-  search rules,
-  c.loop-j.invariant.1
-      ∙ seen_more _ _ c.loop-j-test.true c.is_within.ensures c.if-not-is_within.false,
-)
-
 pub returns : goal.returns
-returns c = sym (c.loop-j.invariant.1 ∙ seen_all _ _ c.loop-j-test.false)
+returns c =
+    let u = c.args.u.now in
+    all_from_yields_List (λ x. within 33 126 x) _ _ c.all.result c.all.ensures.ran (YieldsList-from_slice u cc)
+    (λ x b q k. search (rules, tests))
+    ∙ sym (seen_is u)

@@ -1,5 +1,6 @@
 -- Allowed or denied by port, host and the tab's suffix. Assumes nothing.
-use Rattle.std.proofs.Common.{arith}
+use Rattle.std.proofs.Common.{arith, ◌∙◌}
+use Rattle.rules.proofs.Steps.Put.{two_is}
 use Rattle.rules.proofs.Steps.Send.{name_size}
 use Rattle.rules.proofs.Steps.Tab.{socket_denied, socket_done}
 use Rattle.tabs.proofs.tab.socket.Goals as goal
@@ -11,11 +12,11 @@ returns-then-not-is_socket_allowed c =
 
 pub done-requires : goal.done-requires
 done-requires c =
-    let n = name_size c.two-lead.result c.args.host.now c.send_name-n.ensures in
+    let n = name_size c.to_be_bytes-lead.result c.args.host.now c.send_name-n.ensures in
     omega (arith, c.requires.1, n)
 
 pub returns : goal.returns
 returns c =
     socket_done _ _ _ _ _ c.is_socket_allowed.ensures c.suffix.ensures
     c.if-not-is_socket_allowed.false
-    c.two-lead.ensures c.id.ensures.0 c.send_name-n.ensures c.done.ensures
+    (c.to_be_bytes-lead.ensures ∙ two_is c.args.port) c.id.ensures.0 c.send_name-n.ensures c.done.ensures

@@ -1,0 +1,2 @@
+-- What an action has on its frame.
+pub mod Action
