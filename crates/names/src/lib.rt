@@ -1,8 +1,9 @@
 // The order book and the suffix question of document 01.
 #![tactic(auto)]
 
+ghost use Rattle.std.specs.Prelude.{◌≡◌, [], IfOk, IfErr};
 ghost use Rattle.terms.specs.Names.{suffix_of, Answered};
-ghost use Rattle.terms.specs.Inner.{no_part};
+ghost use Rattle.names.specs.Number.{number_of};
 
 pub mod book;
 mod listed;
@@ -11,34 +12,39 @@ mod orders;
 
 use terms::name::is_name;
 
-// A refusal: the number, and an empty part of the host.
-fn refuse<'h>(host: &'h [u8], why: &mut u8, number: u8) -> &'h [u8]
-    ensures { Answered (no_part number) host.entry.ref_ptr result.ref_ptr result.now why.new }
-{
-    *why = number;
-    &host[..0]
+// Why a host has no suffix: the book is unsound, or nothing fits.
+#[derive(Clone, Copy, Debug, PartialEq, Eq)]
+pub enum NoSuffix {
+    UnsoundBook,
+    Unfit,
 }
 
-// The suffix of a host under a book: a part of the host, case kept, and 0 in `why`; or 6 (the book is unsound) or 7 in
-// `why`, and an empty part.
-pub fn suffix<'h>(host: &'h [u8], book: &[u8], why: &mut u8) -> &'h [u8]
-    ensures { Answered (suffix_of host.now book.now)
-        host.entry.ref_ptr result.ref_ptr result.now why.new }
+impl From<NoSuffix> for u8 {
+    ghost from_gives = { λ why n. n ≡ number_of why };
+
+    fn from(why: NoSuffix) -> u8 {
+        match why {
+            NoSuffix::UnsoundBook => 6,
+            NoSuffix::Unfit => 7,
+        }
+    }
+}
+
+// The suffix of a host under a book: a part of the host, case kept.
+pub fn suffix<'h>(host: &'h [u8], book: &[u8]) -> Result<&'h [u8], NoSuffix>
+    ensures given { IfOk result (λ part. Answered (suffix_of host.now book.now) host.entry.ref_ptr part.ref_ptr part.now 0) }
+    ensures refused { IfErr result (λ why. Answered (suffix_of host.now book.now) host.entry.ref_ptr host.entry.ref_ptr [] (number_of why)) }
 {
     if !book::is_sound(book) {
-        return refuse(host, why, 6);
+        return Err(NoSuffix::UnsoundBook);
     }
     if !is_name(host) {
-        return refuse(host, why, 7);
+        return Err(NoSuffix::Unfit);
     }
-    let taken = longest::with_label(host, longest::public_of(host, book));
-    if taken < 1 {
-        return refuse(host, why, 7);
-    }
+    let public = longest::public_of(host, book).ok_or(NoSuffix::Unfit)?;
+    let taken = longest::with_label(host, public).ok_or(NoSuffix::Unfit)?;
     if 64 < taken {
-        return refuse(host, why, 7);
+        return Err(NoSuffix::Unfit);
     }
-    *why = 0;
-    let from = host.len() - taken;
-    &host[from..]
+    Ok(&host[host.len() - taken..])
 }

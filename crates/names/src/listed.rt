@@ -1,87 +1,43 @@
-// Listed names: which bytes are one, their order, and a list of them in a book.
-ghost use Rattle.std.specs.Prelude.{◌≡◌, ◌&&◌, ◌≤◌, length, leb, eqb};
-ghost use Rattle.terms.specs.Inner.{before, is_listed, sound_names, next_at, names_from, end_from};
+// Listed names: which bytes are one, the one at a place in a book, and a list of them.
+ghost use Rattle.std.specs.Prelude.{◌≡◌, ◌&&◌, ◌≤◌, ◌<◌, length, eqb, MatchOption};
+ghost use Rattle.terms.specs.Inner.{is_listed, sound_names, name_at, next_at, names_from, end_from};
 
-use terms::byte::wide;
 use terms::fold::is_folded;
 use terms::name::is_name;
 
-// Strictly before in byte order, a name before its continuations.
-fn is_before(s: &[u8], t: &[u8]) -> bool
-    ensures { result ≡ before s.now t.now }
-{
-    let mut i = 0;
-    while i < t.len() {
-        if s.len() <= i {
-            return true;
-        }
-        if s[i] < t[i] {
-            return true;
-        }
-        if s[i] != t[i] {
-            return false;
-        }
-        i += 1;
-    }
-    false
-}
-
+#[tactic(auto, using(terms::specs::Steps::Listed::listed_is, std::proofs::lemmas::Bool::Decides::nat_tests))]
 fn is_listed(n: &[u8]) -> bool
     ensures { result ≡ is_listed n.now }
 {
-    if n.len() < 1 {
-        return false;
-    }
-    if 62 < n.len() {
-        return false;
-    }
-    if is_name(n) { is_folded(n) } else { false }
+    (1..=62).contains(&n.len()) && is_name(n) && is_folded(n)
 }
 
-// A listed name that comes after another.
-fn is_next(last: &[u8], n: &[u8]) -> bool
-    ensures { result ≡ (is_listed n.now && before last.now n.now) }
-{
-    if is_listed(n) {
-        is_before(last, n)
-    } else {
-        false
-    }
-}
-
-// A length byte and its bytes stand before a place.
-fn is_inside(b: &[u8], at: usize, until: usize) -> bool
+// The name at a place, if it stands before another.
+pub(crate) fn name_at(b: &[u8], at: usize, until: usize) -> Option<&[u8]>
     requires { until ≤ length b.now }
-    ensures { result ≡ leb (next_at b.now at) until }
+    ensures { MatchOption result (until < next_at b.now at) (λ n. (next_at b.now at ≤ until) × (n.now ≡ name_at b.now at)) }
 {
-    if until <= at {
-        return false;
-    }
-    wide(b[at]) < until - at
+    let (len, rest) = b[..until].get(at..)?.split_first()?;
+    rest.get(..usize::from(*len))
 }
 
 // The names from a place on, as many as the book counts, are sound and end at another.
+#[tactic(auto, using(terms::specs::Steps::Listed::chained, terms::specs::Steps::Listed::not_before))]
 pub(crate) fn are_sound(b: &[u8], from: usize, count: usize, until: usize) -> bool
     requires { until ≤ length b.now }
     ensures { result ≡ (eqb (end_from b.now from count) until && sound_names (names_from b.now from count)) }
 {
     let mut at = from;
-    let mut left = count;
-    let mut last = 0;
-    let mut end = 0;
-    while 0 < left {
-        if !is_inside(b, at, until) {
+    let mut last: &[u8] = b"";
+    for _ in 0..count {
+        let Some(n) = name_at(b, at, until) else {
+            return false;
+        };
+        if !is_listed(n) || n <= last {
             return false;
         }
-        let start = at + 1;
-        let next = start + wide(b[at]);
-        if !is_next(&b[last..end], &b[start..next]) {
-            return false;
-        }
-        last = start;
-        end = next;
-        at = next;
-        left -= 1;
+        at += 1 + n.len();
+        last = n;
     }
     at == until
 }

@@ -1,7 +1,7 @@
 -- The words that every definition is written in: a range, all of a list, one of a list, a rising list, bytes, equal bytes.
 -- They are open (`abbrev`, `unfoldable`): each says no more than its one line, and every layer computes with it.
 -- Assumes nothing.
-use Rattle.std.specs.Prelude.{ℕ, ◌≤◌, ◌<◌, Bool, true, false, ◌&&◌, ◌||◌, List, [], ◌∷◌, get_or, leb, eqb}
+use Rattle.std.specs.Prelude.{ℕ, zero, suc, Option, Some, None, ◌≤◌, ◌<◌, Bool, true, false, ◌&&◌, ◌||◌, List, [], ◌∷◌, get_or, leb, eqb}
 
 -- from lo to hi, both included
 abbrev pub within : ℕ → ℕ → ℕ → Bool
@@ -44,3 +44,8 @@ alike [] [] = true
 alike [] (y ∷ t) = false
 alike (x ∷ s) [] = false
 alike (x ∷ s) (y ∷ t) = eqb x y && alike s t
+
+-- a count that is 0 where there is none: none, or the count
+abbrev pub if_any : ℕ → Option ℕ
+if_any zero = None
+if_any (suc n) = Some (suc n)

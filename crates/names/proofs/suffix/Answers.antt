@@ -1,79 +1,67 @@
--- Each way out is an outcome of the definition: an unsound book, a malformed host, too few or too many bytes, and the last
--- bytes of the host. Assumes nothing.
-use Rattle.std.proofs.Common.{ap, arith, length, refl, sym, true, ◌-◌, ◌∙◌, ◌≡◌}
-use Rattle.terms.specs.Names.{is_name, sound_book}
-use Rattle.terms.specs.Inner.{public_of, with_label}
-use Rattle.terms.specs.Laws.Bools.{within_in, within_low, within_high}
-use Rattle.terms.specs.Laws.Lists.{take_rest}
-use Rattle.terms.specs.Steps.Suffix.{answered_unsound, answered_malformed, answered_out, answered_given}
+-- Each way out is an outcome of `suffix_of`. Assumes nothing.
+use Rattle.std.proofs.Common.{[], sym, ◌∙◌, ◌≡◌, ℕ, Option, Some, None, Result, Ok, Err, IfErr}
+use Rattle.std.specs.Option.{ok_or}
+use Rattle.std.specs.Result.{IsErr, IsErrAnd}
+use Rattle.terms.specs.Names.{suffix_of, Answered}
+use Rattle.terms.specs.Steps.Suffix.{refused_unsound, refused_malformed, refused_unlisted, refused_whole, refused_long, taken_fits, given}
+use Rattle.names.specs.Number.{number_of}
+use Rattle.names.specs.declared.NoSuffix.{NoSuffix}
+use Rattle.names.specs.declared.NoSuffix.TheVariants.{Unfit}
 use Rattle.names.proofs.suffix.Goals as goal
 
-pub returns-then-not-is_sound : goal.returns-then-not-is_sound
-returns-then-not-is_sound c =
-    let a = c.args in
-    let r = c.refuse.ensures in
-    answered_unsound a.host.now a.book.now _ _ _ _
-    (sym c.is_sound.ensures ∙ c.if-not-is_sound.true)
-    (record { says = omega arith; gives = r.gives; block = r.block; byte = r.byte })
+-- what a `?` hands on of an error that says that nothing fits
+unfit : {T : Type 0} (P : ℕ → Type 0) (r : Result T NoSuffix) (e : NoSuffix) → IsErr r × IsErrAnd r (λ x. x ≡ e) → e ≡ Unfit → P 7
+    → IfErr r (λ why. P (number_of why))
+unfit P (Ok x) e h q p = tt
+unfit P (Err y) e h q p = let k : y ≡ Unfit = h.1 ∙ q in rw k p
 
-pub returns-then-not-is_name : goal.returns-then-not-is_name
-returns-then-not-is_name c =
-    let sound : sound_book c.args.book.now ≡ true =
-    sym c.is_sound.ensures ∙ c.if-not-is_sound.false in
-    let a = c.args in
-    answered_malformed a.host.now a.book.now _ _ _ _
-    sound
-    (sym c.is_name.ensures ∙ c.if-not-is_name.true) c.refuse-then-not-is_name.ensures
+-- and where it is made
+made : (o : Option ℕ) (y : NoSuffix) → Err y ≡ ok_or o Unfit → o ≡ None → y ≡ Unfit
+made None y e n = cc
+made (Some x) y e n = cc
 
-pub returns-then-taken-lt1 : goal.returns-then-taken-lt1
-returns-then-taken-lt1 c =
-    let sound : sound_book c.args.book.now ≡ true =
-    sym c.is_sound.ensures ∙ c.if-not-is_sound.false in
-    let named : is_name c.args.host.now ≡ true =
-    sym c.is_name.ensures ∙ c.if-not-is_name.false in
-    let taken : c.with_label-taken.result ≡ with_label c.args.host.now (public_of c.args.book.now c.args.host.now) =
-    c.with_label-taken.ensures.0
-    ∙ ap (with_label c.args.host.now)
-    c.public_of.ensures in
+pub returns-then-not-is_sound-clause-refused : goal.returns-then-not-is_sound-clause-refused
+returns-then-not-is_sound-clause-refused c =
     let a = c.args in
-    let r = c.with_label-taken.result in
-    answered_out a.host.now a.book.now _ _ _ _ r
-    sound
-    named taken
-    (within_low 1 64 r (omega arith)) c.refuse-then-taken-lt1.ensures
+    refused_unsound a.host.now a.book.now a.host.ref_ptr (sym c.is_sound.ensures ∙ c.if-not-is_sound.true)
 
-pub returns-then-taken-gt64 : goal.returns-then-taken-gt64
-returns-then-taken-gt64 c =
-    let sound : sound_book c.args.book.now ≡ true =
-    sym c.is_sound.ensures ∙ c.if-not-is_sound.false in
-    let named : is_name c.args.host.now ≡ true =
-    sym c.is_name.ensures ∙ c.if-not-is_name.false in
-    let taken : c.with_label-taken.result ≡ with_label c.args.host.now (public_of c.args.book.now c.args.host.now) =
-    c.with_label-taken.ensures.0
-    ∙ ap (with_label c.args.host.now)
-    c.public_of.ensures in
+pub returns-then-not-is_name-clause-refused : goal.returns-then-not-is_name-clause-refused
+returns-then-not-is_name-clause-refused c =
     let a = c.args in
-    let r = c.with_label-taken.result in
-    answered_out a.host.now a.book.now _ _ _ _ r
-    sound
-    named taken
-    (within_high 1 64 r (omega arith)) c.refuse-then-taken-gt64.ensures
+    refused_malformed a.host.now a.book.now a.host.ref_ptr (sym c.is_sound.ensures ∙ c.if-not-is_sound.false)
+    (sym c.is_name.ensures ∙ c.if-not-is_name.true)
 
-pub returns : goal.returns
-returns c =
-    let sound : sound_book c.args.book.now ≡ true =
-    sym c.is_sound.ensures ∙ c.if-not-is_sound.false in
-    let named : is_name c.args.host.now ≡ true =
-    sym c.is_name.ensures ∙ c.if-not-is_name.false in
-    let taken : c.with_label-taken.result ≡ with_label c.args.host.now (public_of c.args.book.now c.args.host.now) =
-    c.with_label-taken.ensures.0
-    ∙ ap (with_label c.args.host.now)
-    c.public_of.ensures in
+pub returns-in_err-public-clause-refused : goal.returns-in_err-public-clause-refused
+returns-in_err-public-clause-refused c =
     let a = c.args in
-    let h = a.host.now in
-    let r = c.with_label-taken.result in
-    answered_given h a.book.now _ _ _ _ r
-    sound
-    named taken
-    (within_in 1 64 r (omega arith) (omega arith))
-    (record { says = refl; gives = take_rest (length h - r) h; block = omega arith; byte = omega arith })
+    let e = made _ _ c.in_err-public.ensures.value c.in_err-public.ensures.ok_part in
+    unfit (λ n. Answered (suffix_of a.host.now a.book.now) a.host.ref_ptr a.host.ref_ptr [] n) c.from_residual.result c.in_err-public.field-0.0 c.from_residual.ensures e
+    (refused_unlisted a.host.now a.book.now a.host.ref_ptr (sym c.is_sound.ensures ∙ c.if-not-is_sound.false)
+    (sym c.is_name.ensures ∙ c.if-not-is_name.false) (sym c.public_of.ensures ∙ c.in_err-public.ensures.ok_part))
+
+pub returns-in_err-taken-clause-refused : goal.returns-in_err-taken-clause-refused
+returns-in_err-taken-clause-refused c =
+    let a = c.args in
+    let e = made _ _ c.in_err-taken.ensures.value c.in_err-taken.ensures.ok_part in
+    unfit (λ n. Answered (suffix_of a.host.now a.book.now) a.host.ref_ptr a.host.ref_ptr [] n) c.from_residual-in_err-taken.result c.in_err-taken.field-0.0 c.from_residual-in_err-taken.ensures e
+    (refused_whole a.host.now a.book.now a.host.ref_ptr (sym c.is_sound.ensures ∙ c.if-not-is_sound.false)
+    (sym c.is_name.ensures ∙ c.if-not-is_name.false) c.in_ok-public.public (sym c.public_of.ensures ∙ c.in_ok-public.ensures.ok_part)
+    (sym c.with_label.ensures ∙ c.in_err-taken.ensures.ok_part))
+
+pub returns-then-taken-gt64-clause-refused : goal.returns-then-taken-gt64-clause-refused
+returns-then-taken-gt64-clause-refused c =
+    let a = c.args in
+    refused_long a.host.now a.book.now a.host.ref_ptr (sym c.is_sound.ensures ∙ c.if-not-is_sound.false)
+    (sym c.is_name.ensures ∙ c.if-not-is_name.false) c.in_ok-public.public (sym c.public_of.ensures ∙ c.in_ok-public.ensures.ok_part)
+    c.in_ok-taken.taken (sym c.with_label.ensures ∙ c.in_ok-taken.ensures.ok_part) c.if-taken-gt64.true
+
+pub overflow_sub-result : goal.overflow_sub-result
+overflow_sub-result c =
+    taken_fits c.args.host.now c.in_ok-public.public c.in_ok-taken.taken (sym c.with_label.ensures ∙ c.in_ok-taken.ensures.ok_part)
+
+pub returns-clause-given : goal.returns-clause-given
+returns-clause-given c =
+    let a = c.args in
+    given a.host.now a.book.now a.host.ref_ptr (sym c.is_sound.ensures ∙ c.if-not-is_sound.false)
+    (sym c.is_name.ensures ∙ c.if-not-is_name.false) c.in_ok-public.public (sym c.public_of.ensures ∙ c.in_ok-public.ensures.ok_part)
+    c.in_ok-taken.taken (sym c.with_label.ensures ∙ c.in_ok-taken.ensures.ok_part) c.if-taken-gt64.false
