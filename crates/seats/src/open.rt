@@ -10,6 +10,7 @@ use fields::layout::{is_spent, last, opens, tab_id};
 use frames::action::Action;
 use frames::answer::done;
 use frames::send::{send_bare, send_name};
+use names::NoSuffix;
 use rules::verdict::{Done, Refusal};
 use soundness::tab::owner_at;
 use table::find::process_with;
@@ -19,18 +20,12 @@ use table::slots::live_tabs;
 fn book_number(book: &[u8], x: &[u8]) -> Result<(), Refusal>
     ensures { number_given result ≡ book_number book.now x.now }
 {
-    let mut why: u8 = 0;
-    let own = names::suffix(x, book, &mut why);
-    if why == 6 {
-        return Err(Refusal::UnsoundBook);
+    match names::suffix(x, book) {
+        Ok(own) if own.len() == x.len() => Ok(()),
+        Ok(_) => Err(Refusal::UnfitSuffix),
+        Err(NoSuffix::UnsoundBook) => Err(Refusal::UnsoundBook),
+        Err(NoSuffix::Unfit) => Err(Refusal::UnfitSuffix),
     }
-    if why != 0 {
-        return Err(Refusal::UnfitSuffix);
-    }
-    if own.len() != x.len() {
-        return Err(Refusal::UnfitSuffix);
-    }
-    Ok(())
 }
 
 // What an open is refused for, whatever its room.

@@ -72,8 +72,8 @@ no_more h m l = rw (le-ltb m (length h) l, and-false)
 pub one_more : (h : List ℕ) (m n : ℕ) → 0 < m → m < length h → n ≡ length (last_of (labels (take (length h - (m + 1)) h)))
     → if_any (with_label h m) ≡ Some (n + 1 + m)
 one_more h m n p l e =
-   let k : n + 1 + m ≡ suc (n + m) = omega arith in
-   rw (with_label_is h m p l, ← e, k)
+    let k : n + 1 + m ≡ suc (n + m) = omega arith in
+    rw (with_label_is h m p l, ← e, k)
 
 pub fits : (h : List ℕ) (m n : ℕ) → m < length h → n ≡ length (last_of (labels (take (length h - (m + 1)) h))) → n + 1 + m ≤ length h
 fits h m n l e = let k = last_short (take (length h - (m + 1)) h) in omega (arith, length-take-le (length h - (m + 1)) h (omega arith))
