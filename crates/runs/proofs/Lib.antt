@@ -1,4 +1,3 @@
 -- Laws that several proofs cite.
 pub mod Digits
-pub mod Dots
 pub mod Stores

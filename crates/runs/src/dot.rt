@@ -2,7 +2,7 @@
 ghost use Rattle.std.specs.Prelude.{◌≡◌};
 ghost use Rattle.terms.specs.Names.{has_dot};
 
-#[tactic(auto, using(crate::proofs::Dots::dot_any))]
+#[tactic(auto, using(terms::specs::Steps::Walk::dot_any))]
 pub fn has_dot(s: &[u8]) -> bool
     ensures { result ≡ has_dot s.now }
 {

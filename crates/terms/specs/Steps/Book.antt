@@ -1,7 +1,7 @@
--- Equations that names/src/book.rt goes by: the trailer's fields, parts behind one another, soundness test by test.
+-- Equations that names/src/book.rt goes by: the trailer's fields, and soundness test by test.
 -- Assumes nothing.
-use Rattle.std.specs.Prelude.{◌≡◌, refl, Bool, true, false, ◌&&◌, List, ℕ, ◌+◌, ◌*◌, ◌-◌, ◌<◌, length, get_or, leb, eqb}
-use Rattle.std.proofs.Common.{sym, ap, ◌∙◌, arith, eqb-true, le-leb}
+use Rattle.std.specs.Prelude.{◌≡◌, refl, Bool, true, false, ◌&&◌, List, ℕ, ◌+◌, ◌*◌, ◌-◌, length, get_or, leb, eqb}
+use Rattle.std.proofs.Common.{arith, eqb-true, le-leb}
 use Rattle.std.proofs.Math.Bool.{and-false}
 use Rattle.terms.specs.Base.{within}
 use Rattle.terms.specs.Rule.Num.{num}
@@ -11,10 +11,6 @@ use Rattle.terms.specs.Rule.Book.{order_size, trailer_size, trailer, orders_at, 
 use Rattle.terms.specs.Rule.Book.{orders_from, names_from, end_from, orders, listed, legal_form, adjoins, sound_book}
 use Rattle.terms.specs.Laws.Bools.{cases}
 use Rattle.terms.specs.Laws.Book.{end_rises}
-
-pub trailer_is : (b : List ℕ) → trailer b ≡ length b - trailer_size
-unfolding trailer
-trailer_is b = refl
 
 pub orders_at_is : (b : List ℕ) → orders_at b ≡ num b (length b - trailer_size) 2
 unfolding orders_at trailer

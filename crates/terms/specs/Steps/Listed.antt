@@ -1,5 +1,5 @@
 -- Equations and steps that names/src/listed.rt goes by. Assumes nothing.
-use Rattle.std.specs.Prelude.{◌≡◌, refl, Bool, true, false, ◌&&◌, ◌||◌, ◌⊎◌, Option, Some, None, MatchOption, slice_range, not, length, take, drop, leb, ltb}
+use Rattle.std.specs.Prelude.{◌≡◌, refl, Bool, true, false, ◌&&◌, ◌⊎◌, Option, Some, None, MatchOption, slice_range, not, length, take, drop}
 use Rattle.std.specs.Ordering.{nat_cmp, is_le, is_some_and}
 use Rattle.std.specs.Cmp.Lexicographic.{slice_partial_cmp}
 use Rattle.std.proofs.Math.Path.{ap}
@@ -7,14 +7,14 @@ use Rattle.std.proofs.lemmas.Bool.{false≢true}
 use Rattle.std.proofs.lemmas.Cmp.{same_from_slice_cmp_tested}
 use Rattle.std.proofs.Math.Bool.{and-true}
 use mathlib.Core.List.{List, [], ◌∷◌}
-use Prim.Native.Nat.{ℕ, zero, suc, ◌+◌, ◌-◌, ◌≤◌, ◌<◌}
-use Rattle.std.proofs.Common.{add-one, sym, ◌∙◌, get_or-take, get_or-drop, drop-drop, length-take-le, length-drop, add-zero, ap₂, ⊎_elim}
+use Prim.Native.Nat.{ℕ, suc, ◌+◌, ◌-◌, ◌≤◌, ◌<◌}
+use Rattle.std.proofs.Common.{sym, ◌∙◌, get_or-take, get_or-drop, drop-drop, length-take-le, length-drop, add-zero, ap₂, ⊎_elim}
 use Rattle.std.proofs.lemmas.List.{drop-take, take-take}
 use native.Mathlib.Omega.{arith}
 use Rattle.std.proofs.lemmas.Bool.Decides.{nat_tests}
 use Rattle.std.proofs.Math.ListN.{get_or}
 use Rattle.std.proofs.Math.Dec.{eqb}
-use borrow.Author.Tests.{leb-false, leb-true, ne_eqb}
+use borrow.Author.Tests.{ne_eqb}
 use Rattle.terms.specs.Base.{within, every, rising}
 use Rattle.terms.specs.Rule.Name.{is_name, is_folded}
 use Rattle.terms.specs.Rule.Listed.{before, is_listed, sound_names}

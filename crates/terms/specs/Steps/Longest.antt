@@ -1,10 +1,10 @@
 -- Steps of names/src/longest.rt. Assumes nothing.
-use Rattle.std.specs.Prelude.{◌≡◌, ◌⊎◌, refl, Bool, true, false, not, ◌&&◌, cond, Option, Some, None, List, [], ◌∷◌, ◌++◌, ℕ, zero, suc, ◌+◌, ◌-◌, ◌≤◌, ◌<◌, max, reverse, length, get_or, take, eqb, ltb}
+use Rattle.std.specs.Prelude.{◌≡◌, ◌⊎◌, refl, Bool, true, false, not, ◌&&◌, cond, Option, Some, None, List, [], ◌∷◌, ◌++◌, ℕ, zero, suc, ◌+◌, ◌-◌, ◌≤◌, ◌<◌, max, reverse, length, take, eqb, ltb}
 use Rattle.std.specs.List.{position_or_len}
 use Rattle.std.specs.Option.{unwrap_or, option_partial_cmp}
 use Rattle.std.specs.Ordering.{nat_cmp, partial_lt}
 use Rattle.std.proofs.lemmas.Bool.Decides.{nat_tests}
-use Rattle.std.proofs.Common.{sym, ap, ◌∙◌, arith, append-nil, length-append, length-take-le, le-ltb, ltb-false, ltb-true, inl, inr}
+use Rattle.std.proofs.Common.{sym, ap, ◌∙◌, arith, length-append, length-take-le, le-ltb, ltb-false, ltb-true, inl, inr}
 use Rattle.std.proofs.lemmas.List.{length-reverse, reverse-append, reverse-reverse}
 use Rattle.std.proofs.lemmas.List.Sums.{prefix_len-le-length}
 use Rattle.std.proofs.Math.Bool.{and-false}
@@ -15,7 +15,7 @@ use Rattle.terms.specs.Rule.Book.{name_at, next_at, names_from, names_at, names_
 use Rattle.terms.specs.Rule.Listed.{before, is_listed, sound_names}
 use Rattle.terms.specs.Rule.Suffix.{matched, public_of, with_label}
 use Rattle.terms.specs.Laws.Bools.{and_left, and_right, cases, within_at}
-use Rattle.terms.specs.Laws.Book.{sound_parts, names_fit, end_fits, end_step}
+use Rattle.terms.specs.Laws.Book.{sound_parts, names_fit, end_fits}
 use Rattle.terms.specs.Laws.Labels.{last_snoc}
 use Rattle.terms.specs.Laws.Stands.{with_label_is}
 use Rattle.terms.specs.Steps.Listed.{next_is, name_long}

@@ -1,5 +1,5 @@
 -- The outcomes of names/src/lib.rt: what a refusal and a part given leave is what the contract asks. Assumes nothing.
-use Rattle.std.specs.Prelude.{◌≡◌, refl, true, false, Option, Some, None, List, [], ℕ, zero, suc, ◌+◌, ◌-◌, ◌≤◌, ◌<◌, take, drop, length}
+use Rattle.std.specs.Prelude.{◌≡◌, refl, true, false, Some, None, List, [], ℕ, zero, suc, ◌+◌, ◌-◌, ◌≤◌, ◌<◌, take, drop, length}
 use Rattle.std.proofs.Common.{sym, ap, subst, ◌∙◌, arith}
 use Rattle.terms.specs.Base.{within, if_any}
 use Rattle.terms.specs.Rule.Name.{is_name}
@@ -8,7 +8,6 @@ use Rattle.terms.specs.Rule.Suffix.{public_of, with_label, Answer, no_part, last
 use Rattle.terms.specs.Laws.Bools.{within_in, within_low, within_high}
 use Rattle.terms.specs.Laws.Lists.{take_rest}
 use Rattle.terms.specs.Laws.Answer.{suffix_unsound, suffix_malformed, suffix_named, last_bytes_in, last_bytes_out}
-use Rattle.terms.specs.Laws.Stands.{reached}
 use Rattle.terms.specs.Steps.Longest.{no_label, label_fits}
 
 -- ---- a count that may be none

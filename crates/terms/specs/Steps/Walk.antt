@@ -1,10 +1,11 @@
--- Equations of the classes and labels that src/walk.rt and src/name.rt go by, and the step of a search for a dot.
+-- Equations of the classes and labels that src/walk.rt and src/name.rt go by, and a search for a dot in std's word.
 -- Assumes nothing.
-use Rattle.std.specs.Prelude.{Some, None, ◌≡◌, refl, Bool, true, false, not, ◌&&◌, ◌||◌, cond, List, ℕ, ◌+◌, ◌≤◌, ◌<◌, length, get_or, drop, ltb, eqb}
-use Rattle.terms.specs.Base.{within}
+use Rattle.std.specs.Prelude.{Some, None, ◌≡◌, refl, Bool, true, false, not, ◌&&◌, ◌||◌, cond, List, [], ◌∷◌, ℕ, ◌+◌, ◌<◌, length, get_or, drop, ltb, eqb}
+use Rattle.std.specs.List.{list_any}
+use Rattle.std.proofs.Common.{ap}
+use Rattle.terms.specs.Base.{within, some}
 use Rattle.terms.specs.Rule.Name.{is_letter, is_digit, has_dot}
 use Rattle.terms.specs.Walk.{class_of, fresh, grown, is_whole, next, onward, walk, may_end}
-use Rattle.terms.specs.Laws.Lists.{some_step, some_end}
 use Rattle.terms.specs.Laws.Walk.{walk_step, walk_end, walk_off, name_walk}
 use Rattle.terms.specs.declared.walk.Class.TheVariants.{Dot, Hyphen, Digit, Letter, Other}
 use Rattle.terms.specs.declared.walk.Label.{Label}
@@ -59,13 +60,11 @@ pub end_off : may_end None ≡ false
 unfolding may_end
 end_off = refl
 
-pub dot_step : (s : List ℕ) (i : ℕ) → i < length s → has_dot (drop i s) ≡ eqb (get_or s i 0) 46 || has_dot (drop (i + 1) s)
-unfolding has_dot
-dot_step s i h = some_step (λ x. eqb x 46) s i h
-
-pub dot_end : (s : List ℕ) (i : ℕ) → length s ≤ i → has_dot (drop i s) ≡ false
-unfolding has_dot
-dot_end s i h = some_end (λ x. eqb x 46) s i h
+-- a dot somewhere, in std's word for one of a list
+pub dot_any : (s : List ℕ) → has_dot s ≡ list_any (λ x. eqb x 46) s
+unfolding has_dot some
+dot_any [] = refl
+dot_any (x ∷ s) = ap (λ (b : Bool). eqb x 46 || b) (dot_any s)
 
 -- ---- the loop of walk, with i bytes read
 
