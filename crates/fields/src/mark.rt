@@ -1,6 +1,6 @@
-// What a tab may wait for.
+// What a tab may wait for, and how much it adds to the tab row's waiting.
 #[derive(Clone, Copy)]
 pub enum Mark {
-    Cookie,
-    Document,
+    Cookie = 1,
+    Document = 2,
 }

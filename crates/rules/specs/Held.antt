@@ -1,5 +1,5 @@
 -- What the kernel's functions ask of their callers, and what they leave, below the two calls. Assumes nothing.
-use Rattle.std.specs.Prelude.{ℕ, ◌+◌, ◌≤◌, ◌<◌, ◌≡◌, true, not, cond, ◌≢◌, List, [], ◌∷◌, length, eqb, Result, Ok, Err}
+use Rattle.std.specs.Prelude.{ℕ, Bool, ◌+◌, ◌≤◌, ◌<◌, ◌≡◌, true, not, cond, ◌≢◌, List, [], ◌∷◌, length, eqb, Result, Ok, Err}
 use Rattle.terms.specs.Names.{sound_book}
 use Rattle.fields.specs.Table.{tenant, view, sound_table, live, owner_at, process_with, waits, Openable}
 use Rattle.fields.specs.declared.mark.Mark.{Mark}
@@ -115,9 +115,9 @@ pub record Taking (t o : List ℕ) (s : ℕ) (x : List ℕ) : Type 0 where
   pub takes : Openable t s x
   pub roomy : room_needed ≤ length o
 
-pub record Found (t : List ℕ) (s : ℕ) (x : List ℕ) (owner p : ℕ) : Type 0 where
+pub record Found (t : List ℕ) (s : ℕ) (x : List ℕ) (owner : ℕ) (new : Bool) : Type 0 where
   pub owner= : owner ≡ owner_at (view t) s
-  pub row= : p ≡ process_with (view t) owner x
+  pub new= : new ≡ eqb (process_with (view t) owner x) 0
 
 -- the bar of a seat: the suffix of the tab in a slot, or empty for slot 0
 pub record Shows (t : List ℕ) (s k : ℕ) : Type 0 where

@@ -65,13 +65,13 @@ fn send_tab(out: &mut [u8], at: usize, s: usize, i: usize, x: &[u8]) -> usize
     send_name(out, b, Action::Bar, s, b"", x)
 }
 
-// All of them, where p is the row of the owner's process with this suffix, or 0.
-fn send_open(t: &[u8], out: &mut [u8], s: usize, p: usize, owner: u8, x: &[u8]) -> usize
-    requires { Taking t.now out.old s x.now × Found t.now s x.now owner p }
+// All of them, where the owner's process with this suffix is new or there already.
+fn send_open(t: &[u8], out: &mut [u8], s: usize, new: bool, owner: u8, x: &[u8]) -> usize
+    requires { Taking t.now out.old s x.now × Found t.now s x.now owner new }
     ensures { Sent out.old 0 (open_actions (desk_at t.now s) (new_id (view t.now) s) x.now) out.new result }
 {
     let i = tab_id(s, opens(t, s) + 1);
-    let a = send_process(out, p == 0, last(t) + 1, owner, x);
+    let a = send_process(out, new, last(t) + 1, owner, x);
     send_tab(out, a, s, i, x)
 }
 
@@ -82,12 +82,10 @@ fn take(t: &mut [u8], out: &mut [u8], s: usize, x: &[u8]) -> Result<Done, Refusa
 {
     let owner = owner_at(t, s);
     let p = process_with(t, owner, x);
-    let n = send_open(t, out, s, p, owner, x);
+    let new = p.is_none();
+    let n = send_open(t, out, s, new, owner, x);
     table::open::open(t, s, p, x);
-    if p == 0 {
-        return done(4, n);
-    }
-    done(3, n)
+    if new { done(4, n) } else { done(3, n) }
 }
 
 pub fn open(t: &mut [u8], book: &[u8], out: &mut [u8], s: usize, x: &[u8]) -> Result<Done, Refusal>

@@ -114,9 +114,7 @@ fn process_sends(
     requires { Able t.old out.old × PartIn e.now d.body }
     ensures { Decided (event_rule t.old book.now e.now (Process n d)) out.old t.new out.new result }
 {
-    if process_of(t, n) == 0 {
-        return Err(Refusal::NotLive);
-    }
+    process_of(t, n).ok_or(Refusal::NotLive)?;
     let place = tab_of(t, d.tab).ok_or(Refusal::NotAwaited)?;
     result(t, out, place.seat, place.slot, n, part_of(e, d.body))
 }

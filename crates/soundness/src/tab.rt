@@ -50,10 +50,11 @@ pub(crate) fn is_hung(t: &[u8], s: usize, k: usize) -> bool
     requires { TabOf t.now s k }
     ensures { result ≡ hangs (view t.now) s k }
 {
-    !is_live(t, s, k) || {
-        let p = row(t, s, k);
-        (1..=ROWS).contains(&p) && is_used(t, p) && owner(t, p) == owner_at(t, s)
-    }
+    !is_live(t, s, k)
+        || {
+            let p = row(t, s, k);
+            (1..=ROWS).contains(&p) && is_used(t, p) && owner(t, p) == owner_at(t, s)
+        }
 }
 
 #[tactic(auto, using(fields::specs::Steps::Tab::same_is))]

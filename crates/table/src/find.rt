@@ -1,6 +1,9 @@
 // What the rules look up: whether a seat is let, the tab of an id, the process of a number, the process of an owner and a
-// suffix, a free process row. A process row is given by its number from 1, and 0 says that there is none.
-ghost use Rattle.std.specs.Prelude.{◌≡◌, not, ◌≤◌, length, eqb};
+// suffix, a free process row. A process row is given by its number from 1.
+ghost use Rattle.std.specs.Prelude.{◌≡◌, not, length, eqb};
+ghost use Rattle.std.specs.Option.{IfSome};
+ghost use Rattle.terms.specs.Base.{Range};
+ghost use Rattle.fields.specs.Base.{if_any};
 ghost use Rattle.fields.specs.Table.{view, tenant, table_bytes, SeatOf, TabOf, RowOf};
 ghost use Rattle.fields.specs.Table.{tab_of, process_of, process_with, free_process};
 ghost use Rattle.fields.specs.Inner.{slot_of, tab_has, row_has, row_with};
@@ -10,45 +13,30 @@ use fields::layout::{
 };
 use fields::place::Place;
 use soundness::row::is_used;
+use soundness::tab::is_live;
 use terms::fold::is_same;
 
 // A seat that is let, for any number.
+#[tactic(auto, using(fields::specs::Steps::Find::let_is))]
 pub fn is_let(t: &[u8], s: usize) -> bool
     requires { length t.now ≡ table_bytes }
     ensures { result ≡ not (eqb (view t.now (tenant s)) 0) }
 {
-    if s == 0 {
-        return false;
-    }
-    if SEATS < s {
-        return false;
-    }
-    tenant(t, s) != 0
+    (1..=SEATS).contains(&s) && tenant(t, s) != 0
 }
 
 fn is_tab(t: &[u8], s: usize, k: usize, n: usize) -> bool
     requires { TabOf t.now s k }
     ensures { result ≡ tab_has (view t.now) s n k }
 {
-    let found = serial(t, s, k);
-    if found == 0 {
-        return false;
-    }
-    found == n
+    is_live(t, s, k) && serial(t, s, k) == n
 }
 
-fn slot_of(t: &[u8], s: usize, n: usize) -> usize
+fn slot_of(t: &[u8], s: usize, n: usize) -> Option<usize>
     requires { SeatOf t.now s }
-    ensures { (result ≡ slot_of (view t.now) s n) × (result ≤ 10) }
+    ensures { result ≡ if_any (slot_of (view t.now) s n) }
 {
-    let mut k: usize = 0;
-    while k < SLOTS {
-        k += 1;
-        if is_tab(t, s, k, n) {
-            return k;
-        }
-    }
-    0
+    (1..SLOTS + 1).find(|k| is_tab(t, s, *k, n))
 }
 
 // The live tab of an id.
@@ -56,86 +44,51 @@ pub fn tab_of(t: &[u8], id: usize) -> Option<Place>
     requires { length t.now ≡ table_bytes }
     ensures { result ≡ tab_of (view t.now) id }
 {
-    let s = seat_of_id(id);
-    if s == 0 {
+    let seat = seat_of_id(id);
+    if !(1..=SEATS).contains(&seat) {
         return None;
     }
-    if SEATS < s {
-        return None;
-    }
-    let k = slot_of(t, s, serial_of_id(id));
-    if k == 0 {
-        return None;
-    }
-    Some(Place { seat: s, slot: k })
+    let slot = slot_of(t, seat, serial_of_id(id))?;
+    Some(Place { seat, slot })
 }
 
 fn is_numbered(t: &[u8], p: usize, n: usize) -> bool
     requires { RowOf t.now p }
     ensures { result ≡ row_has (view t.now) n p }
 {
-    let found = number(t, p);
-    if found == 0 {
-        return false;
-    }
-    found == n
+    is_used(t, p) && number(t, p) == n
 }
 
 // The row of the live process of a number.
-pub fn process_of(t: &[u8], n: usize) -> usize
+pub fn process_of(t: &[u8], n: usize) -> Option<usize>
     requires { length t.now ≡ table_bytes }
-    ensures { (result ≡ process_of (view t.now) n) × (result ≤ 80) }
+    ensures found { result ≡ if_any (process_of (view t.now) n) }
+    ensures there { IfSome result (Range 1 80) }
 {
-    let mut p: usize = 0;
-    while p < ROWS {
-        p += 1;
-        if is_numbered(t, p, n) {
-            return p;
-        }
-    }
-    0
+    (1..ROWS + 1).find(|p| is_numbered(t, *p, n))
 }
 
 fn is_with(t: &[u8], p: usize, o: u8, suffix: &[u8]) -> bool
     requires { RowOf t.now p }
     ensures { result ≡ row_with (view t.now) o suffix.now p }
 {
-    if !is_used(t, p) {
-        return false;
-    }
-    let own = owner(t, p);
-    if own != o {
-        return false;
-    }
-    is_same(name(t, p), suffix)
+    is_used(t, p) && owner(t, p) == o && is_same(name(t, p), suffix)
 }
 
 // The row of the live process of an owner and a suffix, whatever the case of the suffix.
-pub fn process_with(t: &[u8], o: u8, suffix: &[u8]) -> usize
+pub fn process_with(t: &[u8], o: u8, suffix: &[u8]) -> Option<usize>
     requires { length t.now ≡ table_bytes }
-    ensures { (result ≡ process_with (view t.now) o suffix.now) × (result ≤ 80) }
+    ensures found { result ≡ if_any (process_with (view t.now) o suffix.now) }
+    ensures there { IfSome result (Range 1 80) }
 {
-    let mut p: usize = 0;
-    while p < ROWS {
-        p += 1;
-        if is_with(t, p, o, suffix) {
-            return p;
-        }
-    }
-    0
+    (1..ROWS + 1).find(|p| is_with(t, *p, o, suffix))
 }
 
 // The lowest free process row.
-pub fn free_process(t: &[u8]) -> usize
+pub fn free_process(t: &[u8]) -> Option<usize>
     requires { length t.now ≡ table_bytes }
-    ensures { (result ≡ free_process (view t.now)) × (result ≤ 80) }
+    ensures found { result ≡ if_any (free_process (view t.now)) }
+    ensures there { IfSome result (Range 1 80) }
 {
-    let mut p: usize = 0;
-    while p < ROWS {
-        p += 1;
-        if !is_used(t, p) {
-            return p;
-        }
-    }
-    0
+    (1..ROWS + 1).find(|p| !is_used(t, *p))
 }

@@ -25,9 +25,7 @@ pub fn fresh(t: &mut [u8], book: &[u8])
     ensures { t.new ≡ fresh book.now }
 {
     wipe(t);
-    let mut n: usize = 0;
-    while n < SEATS {
+    for n in 0..SEATS {
         order_next(t, book, n);
-        n += 1;
     }
 }

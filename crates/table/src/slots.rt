@@ -1,29 +1,16 @@
 // The map of occupied slots: how many tabs are live, and the lowest free slot, each from the map's bits alone.
-ghost use Rattle.std.specs.Prelude.{◌≡◌, true, ◌-◌};
-ghost use Rattle.std.specs.Int.Count.{ones, count_trailing_zeros};
+ghost use Rattle.std.specs.Prelude.{◌≡◌, true};
 ghost use Rattle.terms.specs.Base.{Range};
 ghost use Rattle.fields.specs.Table.{view, sound_table, free_slot, live_tabs, HasSlot};
 
 use fields::layout::slots;
-
-fn ones_of(map: u16) -> u32
-    ensures { result ≡ ones map }
-{
-    u16::count_ones(map)
-}
-
-fn zeros_after(map: u16) -> u32
-    ensures { result ≡ count_trailing_zeros 16 (65535 - map) }
-{
-    u16::trailing_zeros(!map)
-}
 
 // How many tabs of a seat are live.
 pub fn live_tabs(t: &[u8], s: usize) -> usize
     requires { (sound_table t.now ≡ true) × (Range 1 8 s) }
     ensures { result ≡ live_tabs (view t.now) s }
 {
-    ones_of(slots(t, s) as u16) as usize
+    slots(t, s).count_ones() as usize
 }
 
 // The lowest free slot of a seat that has one.
@@ -31,5 +18,5 @@ pub fn free_slot(t: &[u8], s: usize) -> usize
     requires { HasSlot t.now s }
     ensures { (result ≡ free_slot (view t.now) s) × (Range 1 10 result) }
 {
-    zeros_after(slots(t, s) as u16) as usize + 1
+    slots(t, s).trailing_ones() as usize + 1
 }

@@ -33,7 +33,11 @@ fn with(rt: &impl Print, t: &[u8], l: &[u8], owner: usize)
     requires { length t.now ≡ table_bytes }
 {
     match u8::try_from(owner) {
-        Ok(o) => say::told(rt, word(l, 0), table::find::process_with(t, o, word(l, 2))),
+        Ok(o) => say::told(
+            rt,
+            word(l, 0),
+            table::find::process_with(t, o, word(l, 2)).unwrap_or(0),
+        ),
         Err(_) => say::bad(rt, l),
     }
 }
@@ -48,9 +52,9 @@ fn answer(rt: &impl Print, t: &[u8], l: &[u8], question: Question)
         Question::Cut => cut(rt, t, l, n),
         Question::Show => show(rt, t, l, n, number_at(l, 2)),
         Question::Tab => say_place(rt, table::find::tab_of(t, n), label),
-        Question::Process => say::told(rt, label, table::find::process_of(t, n)),
+        Question::Process => say::told(rt, label, table::find::process_of(t, n).unwrap_or(0)),
         Question::With => with(rt, t, l, n),
-        Question::Row => say::told(rt, label, table::find::free_process(t)),
+        Question::Row => say::told(rt, label, table::find::free_process(t).unwrap_or(0)),
         Question::Slot => seat::slot(rt, t, n, label),
         Question::Count => seat::count(rt, t, n, label),
         Question::Owner => seat::owner(rt, t, n, label),

@@ -1,7 +1,7 @@
 -- Chains of iterators over the numbers 1 to n, said in the words of Base: `all` and `each`, `find` and `lowest`. What the closure
 -- gives for a number is what the test gives. Assumes nothing.
-use Rattle.std.specs.Prelude.{◌≡◌, Bool, true, false, Option, None, Some, List, [], ◌∷◌, ℕ, zero, suc, ◌+◌, ◌-◌, ◌≤◌, ◌<◌, length}
-use Rattle.std.proofs.Math.Path.{refl, sym, ap}
+use Rattle.std.specs.Prelude.{◌≡◌, Bool, true, false, Option, None, Some, List, [], ◌∷◌, ℕ, suc, ◌+◌, ◌-◌, ◌≤◌, ◌<◌, length}
+use Rattle.std.proofs.Math.Path.{sym, ap}
 use Rattle.std.proofs.Common.{◌∙◌, subst, arith}
 use Rattle.std.specs.declared.ops.Range.{Range as Numbers}
 use Rattle.std.specs.Bool.{MatchBool}
@@ -18,7 +18,7 @@ use Rattle.terms.specs.Base.{Range}
 use Rattle.terms.specs.Laws.Bools.{and_both}
 use Rattle.fields.specs.Base.{each, lowest, if_any}
 use Rattle.fields.specs.Laws.Each.{range, each_of, each_not, each_none}
-use Rattle.fields.specs.Laws.Lowest.{lowest_none, lowest_is}
+use Rattle.fields.specs.Laws.Lowest.{lowest_none, lowest_is, some_any}
 
 abbrev pub numbers : ℕ → ℕ → Numbers ℕ
 numbers a b = record { start = a; end = b }
@@ -93,10 +93,6 @@ module _ {F : Type 0} {g : Mut F (ℕ × Unit {0}) Bool} {f : F} (n : ℕ) (test
       each_first : {a : ℕ} → a ≡ 1 → each (a - 1) test ≡ true
       each_first {a} q = let z : a - 1 ≡ 0 = omega arith in rw z (each_none test)
 
-any_some : (k : ℕ) → 1 ≤ k → Some k ≡ if_any k
-any_some zero l = absurd (omega arith)
-any_some (suc k) l = refl
-
 module _ {F : Type 0} {g : Mut F (Bor ℕ × Unit {0}) Bool} {s : Numbers ℕ} {f : F} {r : Option ℕ} (u : Numbers ℕ) where
   pub find_lowest : (n : ℕ) (test : ℕ → Bool) → s ≡ numbers 1 (n + 1) → FindsItem nat_range_steps g s f r u
       → ((x : ℕ) (b : Bool) (q : F) → CalledAt g f x b q → (q ≡ f) × (b ≡ test x)) → r ≡ if_any (lowest n test)
@@ -118,7 +114,7 @@ module _ {F : Type 0} {g : Mut F (Bor ℕ × Unit {0}) Bool} {s : Numbers ℕ} {
           sym (ap if_any (lowest_none n test (λ k i. let a = i.low in let b = i.high in h k (omega (arith, start)) (omega (arith, end)))))
       told (Some i) h =
           let low : 1 ≤ i = omega (arith, start, h.0) in
-          any_some i low
+          some_any i low
           ∙ sym (ap if_any (lowest_is n test i
           (record {
             range = range low (omega (arith, end, h.1));

@@ -1,11 +1,11 @@
 -- Laws of `lowest`: what it finds, and a loop's three places. Assumes nothing.
-use Rattle.std.specs.Prelude.{◌≡◌, refl, Bool, true, false, cond, ◌≢◌, ℕ, zero, suc, ◌+◌, ◌≤◌, ◌<◌, eqb}
+use Rattle.std.specs.Prelude.{◌≡◌, refl, Bool, true, false, not, cond, ◌≢◌, Option, None, Some, ℕ, zero, suc, ◌≤◌, ◌<◌, eqb}
 use Rattle.std.proofs.Math.Path.{sym, ap}
-use Rattle.std.proofs.Common.{◌∙◌, subst, ⊎_elim, ne_eqb, eqb-true, le_antisymm, arith}
-use Rattle.std.proofs.lemmas.Bool.{eqb-false}
-use Rattle.std.proofs.Math.Numerals.{add-one}
+use Rattle.std.proofs.Common.{◌∙◌, ⊎_elim, ne_eqb, eqb-true, arith, subst}
+use Rattle.std.proofs.lemmas.Bool.{eqb-false, false≢true}
+use Rattle.std.specs.Option.{IfSome, is_some}
 use Rattle.terms.specs.Base.{Range}
-use Rattle.fields.specs.Base.{lowest}
+use Rattle.fields.specs.Base.{lowest, if_any}
 use Rattle.fields.specs.Laws.Each.{range, last_or}
 
 -- k is the lowest of 1 to n that passes
@@ -71,35 +71,32 @@ lowest_at (suc n) f h = go (lowest_at n f) (eqb (lowest n f) 0) refl (f (suc n))
         let a = w.range.high in
         record { range = range w.range.low (omega arith); passes = w.passes; below = w.below }
 
--- ---- a loop that counts up to n and leaves at the first that passes: it asks for k + 1 after k have failed
+-- ---- the same as an option
 
-pub record Sought (n : ℕ) (f : ℕ → Bool) (k : ℕ) : Type 0 where
-  pub most : k ≤ n
-  pub none : lowest k f ≡ 0
+pub any_none : (n : ℕ) → None ≡ if_any n → n ≡ 0
+any_none zero e = refl
+any_none (suc n) e = cc
 
--- what it gives
-abbrev pub Found : ℕ → (ℕ → Bool) → ℕ → Type 0
-Found n f k = (k ≡ lowest n f) × (k ≤ n)
+pub any_some : (n : ℕ) {p : ℕ} → Some p ≡ if_any n → (p ≡ n) × (p ≢ 0)
+any_some zero e = cc
+any_some (suc n) {p} e = let q : p ≡ suc n = cc in (q, λ z. absurd (omega (arith, q, z)))
 
-pub sought_start : (n : ℕ) (f : ℕ → Bool) → Sought n f 0
-unfolding lowest
-sought_start n f = record { most = omega arith; none = refl }
+none_any : (n : ℕ) (b : Bool) → is_some (if_any n) ≡ not b → b ≡ eqb n 0
+none_any zero true e = refl
+none_any zero false e = absurd (false≢true e)
+none_any (suc n) true e = absurd (false≢true (sym e))
+none_any (suc n) false e = sym (ne_eqb (suc n) 0 (λ z. absurd (omega (arith, z))))
 
-module _ {n : ℕ} {f : ℕ → Bool} {k : ℕ} (w : Sought n f k) where
-  pub sought_pass : {r : Bool} → k < n → r ≡ f (k + 1) → r ≡ false → Sought n f (k + 1)
-  unfolding lowest
-  sought_pass l q h = record { most = omega arith; none = rw add-one (rw (w.none, ap f (sym (add-one k)) ∙ sym q ∙ h)) }
+-- no row is found where the option is none
+pub is_new_any : (n : ℕ) {o : Option ℕ} {b : Bool} → o ≡ if_any n → is_some o ≡ not b → b ≡ eqb n 0
+is_new_any n {o} {b} e h = none_any n b (ap is_some (sym e) ∙ h)
 
-  pub sought_stop : {r : Bool} → k < n → r ≡ f (k + 1) → r ≡ true → Found n f (k + 1)
-  sought_stop l q h = (
-    sym (lowest_is n f (k + 1)
-        (record {
-          range = range (omega arith) (omega arith);
-          passes = sym q ∙ h;
-          below = λ i a b. lowest_nil k f w.none i (range a (omega arith));
-        })),
-    omega arith,
-  )
+pub some_any : (k : ℕ) → 1 ≤ k → Some k ≡ if_any k
+some_any zero l = absurd (omega arith)
+some_any (suc k) l = refl
 
-  pub sought_done : n ≤ k → Found n f 0
-  sought_done m = (sym (subst (λ (x : ℕ). lowest x f ≡ 0) (le_antisymm w.most m) w.none), omega arith)
+pub any_in : (n : ℕ) (f : ℕ → Bool) (r : Option ℕ) → r ≡ if_any (lowest n f) → IfSome r (Range 1 n)
+any_in n f None e = tt
+any_in n f (Some k) e =
+    let q = any_some (lowest n f) e in
+    subst (Range 1 n) (sym q.0) (lowest_at n f (λ z. q.1 (q.0 ∙ z))).range

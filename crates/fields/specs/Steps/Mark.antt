@@ -1,6 +1,6 @@
 -- Marks as the code reads and writes them. Assumes nothing.
-use Rattle.std.specs.Prelude.{◌≡◌, Bool, true, ◌||◌, List, ℕ, ◌+◌, ◌-◌, ◌≤◌, eqb}
-use Rattle.std.proofs.Common.{◌∙◌, ⊎_elim, arith, eqb-true}
+use Rattle.std.specs.Prelude.{◌≡◌, true, ◌||◌, List, ℕ, ◌+◌, ◌-◌, ◌≤◌, eqb}
+use Rattle.std.proofs.Common.{refl, ⊎_elim, arith, eqb-true}
 use Rattle.terms.specs.Laws.Bools.{or_case}
 use Rattle.fields.specs.Rule.View.{View, waiting}
 use Rattle.fields.specs.Rule.Layout.{view}
@@ -17,11 +17,15 @@ pub weight_document : {n : ℕ} → n ≡ 2 → n ≡ weight Document
 unfolding weight
 weight_document e = e
 
-pub waits_is : (v : View) (s k : ℕ) (m : Mark) {r : Bool} {w n : ℕ} → w ≡ v (waiting s k) → n ≡ weight m
-    → r ≡ eqb w n || eqb w 3 → r ≡ waits v s k m
+pub weight_le : (m : Mark) → weight m ≤ 2
+unfolding weight
+weight_le Cookie = omega arith
+weight_le Document = omega arith
+
+pub waits_is : (v : View) (s k : ℕ) (m : Mark) → waits v s k m ≡ eqb (v (waiting s k)) (weight m) || eqb (v (waiting s k)) 3
 unfolding waits weight
-waits_is v s k Cookie a b e = e ∙ rw (a, b)
-waits_is v s k Document a b e = e ∙ rw (a, b)
+waits_is v s k Cookie = refl
+waits_is v s k Document = refl
 
 -- a mark that is waited for is in the number
 pub waits_low : (v : View) (s k : ℕ) (m : Mark) → waits v s k m ≡ true → weight m ≤ v (waiting s k)

@@ -1,7 +1,10 @@
 -- An open as the code makes it. k is the free slot, p the row that is found, q the row that is made. Assumes nothing.
-use Rattle.std.specs.Prelude.{◌≡◌, ◌≢◌, List, ℕ, length}
+use Rattle.std.specs.Prelude.{◌≡◌, refl, true, ◌≢◌, List, ℕ, length}
 use Rattle.std.proofs.Common.{sym, ap, ap₂, ◌∙◌, subst, arith, eq-eqb, ne_eqb}
+use Rattle.std.specs.Option.{is_some}
 use Rattle.terms.specs.Base.{Range}
+use Rattle.fields.specs.Base.{if_any}
+use Rattle.fields.specs.Laws.Lowest.{some_any}
 use Rattle.fields.specs.Rule.Layout.{most_opens, view}
 use Rattle.fields.specs.Rule.Word.{owner_at}
 use Rattle.fields.specs.Rule.Find.{process_with, free_slot, free_process}
@@ -47,6 +50,11 @@ free_in {t} {s} w e =
     let x = table_facts t w.sound in
     subst (Range 1 80) (sym e) (free_process_lem (view t) (room most_opens (view t) s x.shows w.seat w.slot)).row
 
+pub free_some : {t : List ℕ} {s : ℕ} {suffix : List ℕ} → Openable t s suffix → is_some (if_any (free_process (view t))) ≡ true
+free_some {t} w =
+    let r : Range 1 80 (free_process (view t)) = free_in w refl in
+    rw (← some_any (free_process (view t)) r.low)
+
 pub new_makes : {t : List ℕ} {s q : ℕ} {suffix : List ℕ} → Openable t s suffix → q ≡ free_process (view t) → Makable t q suffix
 new_makes {t} {s} w e =
     let x = table_facts t w.sound in
@@ -54,12 +62,11 @@ new_makes {t} {s} w e =
     let b = numbers_enough in
     record { long = x.long; row = free_in w e; next = omega arith; short = w.long.high }
 
-pub new_hangs : {t u : List ℕ} {s k p q o : ℕ} {suffix : List ℕ} → Openable t s suffix → k ≡ free_slot (view t) s
-    → p ≡ process_with (view t) (owner_at (view t) s) suffix → p ≡ 0 → q ≡ free_process (view t) → o ≡ owner_at (view t) s
+pub new_hangs : {t u : List ℕ} {s k q o : ℕ} {suffix : List ℕ} → Openable t s suffix → k ≡ free_slot (view t) s
+    → process_with (view t) (owner_at (view t) s) suffix ≡ 0 → q ≡ free_process (view t) → o ≡ owner_at (view t) s
     → u ≡ row_made t q o suffix → Hangable u s k q
-new_hangs {t} {u} {s} {k} {p} {q} {o} {suffix} w e f z g h i =
+new_hangs {t} {u} {s} {k} {q} {o} {suffix} w e none g h i =
     let x = table_facts t w.sound in
-    let none : process_with (view t) (owner_at (view t) s) suffix ≡ 0 = sym f ∙ z in
     let same : u ≡ row_made t (free_process (view t)) (owner_at (view t) s) suffix = i ∙ ap₂ (λ (a b : ℕ). row_made t a b suffix) g h in
     let m = made_fields (view t) (free_process (view t)) (owner_at (view t) s) suffix in
     let shows = ap view same ∙ mid_view t s suffix w none in
@@ -74,9 +81,9 @@ new_hangs {t} {u} {s} {k} {p} {q} {o} {suffix} w e f z g h i =
       few = rw shows (let a = m.tabs= q in let b = tabs_le_80 most_opens (view t) q x.shows r in omega arith);
     }
 
-pub open_renews : (t : List ℕ) {u v : List ℕ} (s : ℕ) {k p q o : ℕ} (suffix : List ℕ) → k ≡ free_slot (view t) s
-    → p ≡ process_with (view t) (owner_at (view t) s) suffix → p ≡ 0 → q ≡ free_process (view t) → o ≡ owner_at (view t) s
+pub open_renews : (t : List ℕ) {u v : List ℕ} (s : ℕ) {k q o : ℕ} (suffix : List ℕ) → k ≡ free_slot (view t) s
+    → process_with (view t) (owner_at (view t) s) suffix ≡ 0 → q ≡ free_process (view t) → o ≡ owner_at (view t) s
     → u ≡ row_made t q o suffix → v ≡ hung u s k q → v ≡ opened t s suffix
 unfolding opened opened_at
-open_renews t s {k} {p} {q} {o} suffix e f z g h i j =
-    j ∙ ap (λ (x : List ℕ). hung x s k q) i ∙ sym (rw (sym e, sym f, sym g, sym h, eq-eqb p 0 z))
+open_renews t s {k} {q} {o} suffix e z g h i j =
+    j ∙ ap (λ (x : List ℕ). hung x s k q) i ∙ sym (rw (sym e, z, sym g, sym h))

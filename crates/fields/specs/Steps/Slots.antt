@@ -19,15 +19,15 @@ module _ (t : List ℕ) (s : ℕ) where
   map_is : {m : ℕ} → sound_table t ≡ true → Range 1 8 s → m ≡ view t (slots s) → m ≡ bits 10 (λ k. live (view t) s k)
   map_is w r e = e ∙ (table_facts t w).shows.map_agrees s r
 
-  pub live_count : {m n : ℕ} → sound_table t ≡ true → Range 1 8 s → m ≡ view t (slots s) → n ≡ ones m → n ≡ live_tabs (view t) s
+  pub live_count : {m : ℕ} → sound_table t ≡ true → Range 1 8 s → m ≡ view t (slots s) → ones m ≡ live_tabs (view t) s
   unfolding live_tabs
-  live_count w r e f = f ∙ ap ones (map_is w r e) ∙ ones_bits 10 (λ k. live (view t) s k)
+  live_count w r e = ap ones (map_is w r e) ∙ ones_bits 10 (λ k. live (view t) s k)
 
-  pub free_found : {m n : ℕ} → HasSlot t s → m ≡ view t (slots s) → n ≡ count_trailing_zeros 16 (65535 - m)
+  pub free_found : {m n : ℕ} → HasSlot t s → m ≡ view t (slots s) → n ≡ count_trailing_zeros 64 (18446744073709551615 - m)
       → (n + 1 ≡ free_slot (view t) s) × (Range 1 10 (n + 1))
   unfolding live_tabs free_slot
   free_found {m} {n} h e f =
       let a : n + 1 ≡ free_slot (view t) s
-      = ap (λ (x : ℕ). x + 1) (f ∙ ap (λ (x : ℕ). count_trailing_zeros 16 (65535 - x)) (map_is h.sound h.seat e))
+      = ap (λ (x : ℕ). x + 1) (f ∙ ap (λ (x : ℕ). count_trailing_zeros 64 (18446744073709551615 - x)) (map_is h.sound h.seat e))
       ∙ lowest_free (λ k. live (view t) s k) h.slot in
       (a, subst (Range 1 10) (sym a) (free_slot_lem (view t) s h.slot).slot)

@@ -51,14 +51,9 @@ unfolding open_actions only
 count_open d i x true e = rw e
 count_open d i x false e = rw e
 
-is_new : {p : ℕ} {c : Bool} (t : List ℕ) (s : ℕ) (x : List ℕ) → p ≡ process_with (view t) (owner_at (view t) s) x → eqb p 0 ≡ c
-    → (desk_at t s).new x ≡ c
+is_new : {owner : ℕ} {new : Bool} (t : List ℕ) (s : ℕ) (x : List ℕ) → Found t s x owner new → new ≡ (desk_at t s).new x
 unfolding desk
-is_new t s x e h = ap (λ (q : ℕ). eqb q 0) (sym e) ∙ h
-
-found_row : {owner p : ℕ} (t : List ℕ) (s : ℕ) (x : List ℕ) → Found t s x owner p
-    → p ≡ process_with (view t) (owner_at (view t) s) x
-found_row t s x u = u.row= ∙ ap (λ (y : ℕ). process_with (view t) y x) u.owner=
+is_new t s x u = u.new= ∙ ap (λ (y : ℕ). eqb (process_with (view t) y x) 0) u.owner=
 
 -- ---- the frames
 
@@ -78,42 +73,42 @@ tab_sent x h l f g k =
     let y = f.same in
     sent_then (omega arith) f (sent_then (omega arith) g k)
 
--- start process or not, and then the tab's: of the row that was found, the process's number, the owner and the tab's id
-opening : ℕ → List ℕ → ℕ → ℕ → ℕ → ℕ → List Frame
-opening s x p n owner i =
-    only (eqb p 0) (start_process n owner (folded x)) ++ (start_tab i ∷ go i (folded x) ∷ bar s (folded x) ∷ [])
+-- start process or not, and then the tab's: of whether it is new, the process's number, the owner and the tab's id
+opening : ℕ → List ℕ → Bool → ℕ → ℕ → ℕ → List Frame
+opening s x new n owner i =
+    only (new) (start_process n owner (folded x)) ++ (start_tab i ∷ go i (folded x) ∷ bar s (folded x) ∷ [])
 
 pub opening_size : (n owner : ℕ) (x : List ℕ) → length (start_process n owner (folded x)).payload ≡ 1 + length x
 unfolding be
 opening_size n owner x = let e = length_folded x in omega arith
 
 module _ (t : List ℕ) (s : ℕ) (x : List ℕ) where
-  pub open_sent : {o o₁ o₂ : List ℕ} {p owner n i a r : ℕ} → Taking t o s x → Found t s x owner p → n ≡ view t last
-      → i ≡ new_id (view t) s → Sent o 0 (only (eqb p 0) (start_process (n + 1) owner (folded x))) o₁ a
+  pub open_sent : {o o₁ o₂ : List ℕ} {owner n i a r : ℕ} {new : Bool} → Taking t o s x → Found t s x owner new → n ≡ view t last
+      → i ≡ new_id (view t) s → Sent o 0 (only new (start_process (n + 1) owner (folded x))) o₁ a
       → Sent o₁ a (start_tab i ∷ go i (folded x) ∷ bar s (folded x) ∷ []) o₂ r
       → Sent o 0 (open_actions (desk_at t s) (new_id (view t) s) x) o₂ r
   unfolding open_actions desk opening
-  open_sent {o} {o₁} {o₂} {p} {owner} {n} {i} {a} {r} w u en ei f g =
+  open_sent {o} {o₁} {o₂} {owner} {n} {i} {a} {r} {new} w u en ei f g =
       let h = w.roomy in
       let l = w.takes.long.high in
-      let z = size_only (eqb p 0) (start_process (n + 1) owner (folded x)) in
+      let z = size_only new (start_process (n + 1) owner (folded x)) in
       let m = opening_size (n + 1) owner x in
-      let row = process_with (view t) (owner_at (view t) s) x in
-      let e : opening s x p (n + 1) owner i ≡ opening s x row (view t last + 1) (owner_at (view t) s) (new_id (view t) s) =
-      ap (λ (y : ℕ). opening s x y (n + 1) owner i) (found_row t s x u) ∙ ap (λ (y : ℕ). opening s x row (y + 1) owner i) en
-      ∙ ap₂ (λ (y j : ℕ). opening s x row (view t last + 1) y j) u.owner= ei in
+      let e : opening s x new (n + 1) owner i ≡ opening s x ((desk_at t s).new x) (view t last + 1) (owner_at (view t) s) (new_id (view t) s) =
+      ap (λ (y : Bool). opening s x y (n + 1) owner i) (is_new t s x u)
+      ∙ ap (λ (y : ℕ). opening s x ((desk_at t s).new x) (y + 1) owner i) en
+      ∙ ap₂ (λ (y j : ℕ). opening s x ((desk_at t s).new x) (view t last + 1) y j) u.owner= ei in
       subst (λ (y : List Frame). Sent o 0 y o₂ r) e (sent_then (omega arith) f g)
 
   -- ---- the exits
 
-  pub take_done : {o t' o' : List ℕ} {n p m owner : ℕ} {g : Result Done Refusal} (c : Bool) → Found t s x owner p → eqb p 0 ≡ c
+  pub take_done : {o t' o' : List ℕ} {n m owner : ℕ} {new : Bool} {g : Result Done Refusal} (c : Bool) → Found t s x owner new → new ≡ c
       → Sent o 0 (open_actions (desk_at t s) (new_id (view t) s) x) o' n → t' ≡ opened t s x → Says 0 m n g → m ≡ cond c 4 3
       → Replied t s (reply (open_actions (desk_at t s) (new_id (view t) s) x) (open_tab x)) o t' o' g
   unfolding changed
   take_done {n = n} {g = g} c u ec w f y j =
       replied_done (open_tab x) refl w f
       (subst (λ (i : ℕ). Says 0 i n g)
-      (j ∙ sym (count_open (desk_at t s) (new_id (view t) s) x c (is_new t s x (found_row t s x u) ec))) y)
+      (j ∙ sym (count_open (desk_at t s) (new_id (view t) s) x c (sym (is_new t s x u) ∙ ec))) y)
 
   pub open_refused : {o : List ℕ} (b : List ℕ) (why : Refusal) → number_of why ≡ open_number (desk_at t s) b x
       → Replied t s (open_rule (desk_at t s) b x) o t o (Err why)

@@ -1,6 +1,6 @@
 -- A serial and a process number are left, the suffix has at most 64 bytes, and the room is enough for four frames. Assumes
 -- nothing.
-use Rattle.std.proofs.Common.{ap, arith, eqb, ℕ, ◌+◌, ◌∙◌}
+use Rattle.std.proofs.Common.{ap, arith, ℕ, ◌+◌, ◌∙◌}
 use Rattle.terms.specs.Names.{folded}
 use Rattle.fields.specs.Table.{tab_id}
 use Rattle.fields.specs.Promises.{number_left}
@@ -47,7 +47,7 @@ send_tab-requires c =
     let x = c.args.x.now in
     let n = c.last.result + 1 in
     let f = c.send_process-a.ensures in
-    let z = size_only (eqb c.args.p 0) (start_process n c.args.owner (folded x)) in
+    let z = size_only c.args.new (start_process n c.args.owner (folded x)) in
     let m = opening_size n c.args.owner x in (
       omega (arith, w.roomy, w.takes.long.high, f.next, f.same, z, m),
       w.takes.long.high,

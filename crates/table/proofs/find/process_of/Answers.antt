@@ -1,20 +1,15 @@
--- The loop keeps: no row up to p is the one sought. Assumes nothing.
-use Rattle.fields.specs.Laws.Lowest.{sought_start, sought_pass, sought_stop, sought_done}
+-- The chain asks each row, and stops at the first that passes. Assumes nothing.
+use Rattle.std.proofs.Common.{ap, refl, rules, sym, ◌∙◌}
+use borrow.Author.Tests.{tests}
+use Rattle.fields.specs.Base.{if_any}
+use Rattle.fields.specs.Table.{view}
+use Rattle.fields.specs.Inner.{row_has}
+use Rattle.fields.specs.Laws.Lowest.{any_in}
+use Rattle.fields.specs.Laws.Chains.{find_lowest}
 use Rattle.fields.specs.Steps.Find.{process_is}
 use Rattle.table.proofs.find.process_of.Goals as goal
 
-pub loop-p-init : goal.loop-p-init
-loop-p-init c = sought_start _ _
-
-pub returns-then-is_numbered : goal.returns-then-is_numbered
-returns-then-is_numbered c =
-    let has = c.is_numbered.ensures in
-    process_is _ _ (sought_stop c.loop-p.invariant c.loop-p-test.true has c.if-is_numbered.true)
-
-pub loop-p-preserved : goal.loop-p-preserved
-loop-p-preserved c =
-    let has = c.is_numbered.ensures in
-    sought_pass c.loop-p.invariant c.loop-p-test.true has c.if-is_numbered.false
-
 pub returns : goal.returns
-returns c = process_is _ _ (sought_done c.loop-p.invariant c.loop-p-test.false)
+returns c =
+    let e = find_lowest _ 80 (λ p. row_has (view c.args.t.now) c.args.n p) refl c.find.ensures.ran (λ x b q h. search (rules, tests)) in
+    record { found = e ∙ ap if_any (sym (process_is _ _)); there = any_in 80 _ _ e }

@@ -1,19 +1,20 @@
--- No tab is live in seat 0 or in one above 8; else the slot that is found decides. Assumes nothing.
-use Rattle.fields.specs.Steps.Find.{tab_low, tab_high, tab_none, tab_some}
+-- No tab is live in a seat that is not there; else the slot that is found decides. Assumes nothing.
+use Rattle.std.proofs.Common.{arith, false, leb, sym, ◌&&◌, ◌∙◌, ◌≡◌}
+use Rattle.std.proofs.lemmas.Grind.{common_steps}
+use Rattle.fields.specs.Steps.Find.{tab_out, tab_none, tab_some}
 use Rattle.table.proofs.find.tab_of.Goals as goal
 
-pub returns-then-s-eq0 : goal.returns-then-s-eq0
-returns-then-s-eq0 c = tab_low _ _ c.seat_of_id-s.ensures c.if-s-eq0.true
+pub returns-then-not-contains : goal.returns-then-not-contains
+returns-then-not-contains c =
+    let s = c.seat_of_id-seat.result in
+    let out : leb 1 s && leb s 8 ≡ false = grind (arith, common_steps) in
+    tab_out c.args.t.now _ c.seat_of_id-seat.ensures out
 
-pub returns-then-s-gt-SEATS : goal.returns-then-s-gt-SEATS
-returns-then-s-gt-SEATS c = tab_high _ _ c.seat_of_id-s.ensures c.if-s-gt-SEATS.true
-
-pub returns-then-k-eq0 : goal.returns-then-k-eq0
-returns-then-k-eq0 c =
-    tab_none _ _ c.seat_of_id-s.ensures c.serial_of_id.ensures.0
-    c.slot_of-k.ensures.0 c.if-k-eq0.true
+pub returns-in_err-slot : goal.returns-in_err-slot
+returns-in_err-slot c =
+    c.from_residual.ensures
+    ∙ tab_none _ _ c.seat_of_id-seat.ensures c.serial_of_id.ensures.0 (sym c.in_err-slot.was ∙ c.slot_of.ensures)
 
 pub returns : goal.returns
 returns c =
-    tab_some _ _ c.seat_of_id-s.ensures c.serial_of_id.ensures.0
-    c.slot_of-k.ensures.0 c.if-k-eq0.false
+    tab_some _ _ c.seat_of_id-seat.ensures c.serial_of_id.ensures.0 (sym c.in_ok-slot.was ∙ c.slot_of.ensures)

@@ -6,7 +6,7 @@ use Rattle.table.proofs.fresh.fresh.Goals as goal
 
 pub loop-n-init : goal.loop-n-init
 loop-n-init c =
-    (c.wipe.ensures.0, ordered_none c.args.book.now c.wipe.ensures.1, omega arith)
+    (c.wipe.ensures.0, ordered_none c.args.book.now c.wipe.ensures.1)
 
 pub returns : goal.returns
 returns c =

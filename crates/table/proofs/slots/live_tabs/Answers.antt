@@ -7,5 +7,4 @@ pub slots-requires : goal.slots-requires
 slots-requires c = sound_seat c.requires.0 c.requires.1
 
 pub returns : goal.returns
-returns c =
-    live_count _ _ c.requires.0 c.requires.1 c.slots.ensures.0 c.ones_of.ensures
+returns c = live_count _ _ c.requires.0 c.requires.1 c.slots.ensures.0

@@ -1,0 +1,2 @@
+-- Lemmas of the proofs of several functions.
+pub mod Marks
