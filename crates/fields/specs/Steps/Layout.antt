@@ -1,8 +1,8 @@
 -- Equations that src/layout.rt goes by: where a field lies, what it shows there, what writing there leaves; and the table's
 -- numbers. Assumes nothing.
-use Rattle.std.specs.Prelude.{◌≡◌, true, ◌&&◌, List, [], ◌∷◌, ◌++◌, ℕ, zero, suc, ◌+◌, ◌-◌, ◌*◌, ◌/◌, ◌%◌, ◌≤◌, ◌<◌, eqb, length, take, set}
+use Rattle.std.specs.Prelude.{◌≡◌, true, ◌&&◌, List, ◌∷◌, ℕ, zero, suc, ◌+◌, ◌-◌, ◌*◌, ◌/◌, ◌%◌, eqb, length, replicate}
 use Rattle.std.proofs.Math.Path.{refl, sym}
-use Rattle.std.proofs.Common.{ap, ◌∙◌, add-one, arith, take_all, take-suc-set}
+use Rattle.std.proofs.Common.{ap, ◌∙◌}
 use Rattle.terms.specs.Base.{Range}
 use Rattle.fields.specs.Base.{series}
 use Rattle.fields.specs.Rule.View.{View, Field, there, tenant, options, selected, seat_zero, opens, slots, serial, row}
@@ -160,30 +160,15 @@ pub last_lies : Lies last 6148 4
 unfolding there form_at form_width
 last_lies = record { is = refl; place = refl; wide = refl }
 
--- ---- the table wiped: its first i bytes are zero
+-- ---- the table wiped, and then the offset of the process rows written
 
-abbrev pub Wiped : List ℕ → ℕ → Type 0
-Wiped t i = take i t ≡ series i (λ j. 0)
-
-pub wiped_none : (t : List ℕ) (i : ℕ) → i ≡ 0 → Wiped t i
+zeros : (n : ℕ) → replicate n 0 ≡ series n (λ j. 0)
 unfolding series
-wiped_none t i e = rw e
+zeros zero = refl
+zeros (suc n) = ap (λ (l : List ℕ). 0 ∷ l) (zeros n)
 
--- a zero in front is a zero behind
-zeros_snoc : (n : ℕ) → series n (λ j. 0) ++ (0 ∷ []) ≡ 0 ∷ series n (λ j. 0)
-unfolding series
-zeros_snoc zero = refl
-zeros_snoc (suc n) = ap (λ (l : List ℕ). 0 ∷ l) (zeros_snoc n)
-
-pub wiped_more : (t : List ℕ) (i : ℕ) → i < length t → Wiped t i → Wiped (set t i 0) (i + 1)
-unfolding series
-wiped_more t i h w = rw (add-one i, take-suc-set t i 0 h, w) (zeros_snoc i)
-
--- and then the offset of the process rows is written
-pub blank_is : (t u : List ℕ) (i : ℕ) → length t ≡ table_bytes → i ≤ length t → length t ≤ i → Wiped t i
-    → WroteField t u rows_at 384 → u ≡ blank
+pub blank_is : (t : List ℕ) {u w : List ℕ} → length t ≡ table_bytes → w ≡ replicate (length t) 0 → WroteField w u rows_at 384 → u ≡ blank
 unfolding blank form
-blank_is t u i long h k w o =
-    let n : i ≡ table_bytes = omega arith in
-    let z : t ≡ series table_bytes (λ j. 0) = sym (take_all i t k) ∙ w ∙ ap (λ (m : ℕ). series m (λ j. 0)) n in
+blank_is t {u} {w} long h o =
+    let z : w ≡ series table_bytes (λ j. 0) = h ∙ ap (λ (n : ℕ). replicate n 0) long ∙ zeros table_bytes in
     o.is ∙ ap (λ (l : List ℕ). write l rows_at 384) z

@@ -1,6 +1,6 @@
 -- An open as the code makes it. k is the free slot, p the row that is found, q the row that is made. Assumes nothing.
 use Rattle.std.specs.Prelude.{◌≡◌, refl, true, ◌≢◌, List, ℕ, length}
-use Rattle.std.proofs.Common.{sym, ap, ap₂, ◌∙◌, subst, arith, eq-eqb, ne_eqb}
+use Rattle.std.proofs.Common.{sym, ap, ap₂, ◌∙◌, subst, arith, ne_eqb}
 use Rattle.std.specs.Option.{is_some}
 use Rattle.terms.specs.Base.{Range}
 use Rattle.fields.specs.Base.{if_any}

@@ -12,25 +12,18 @@ pub fn is_long(t: &[u8]) -> bool
     t.len() == TABLE
 }
 
+#[tactic(auto, using(crate::specs::Steps::Layout::offsets_is))]
 pub fn are_offsets_given(t: &[u8]) -> bool
     requires { length t.now ≡ table_bytes }
     ensures { result ≡ offsets_given form (view t.now) }
 {
-    if seats_at(t) == 0 {
-        rows_at(t) == ROWS_BEGIN
-    } else {
-        false
-    }
+    seats_at(t) == 0 && rows_at(t) == ROWS_BEGIN
 }
 
 pub fn wipe(t: &mut [u8])
     requires { length t.old ≡ table_bytes }
     ensures { Left t.new blank }
 {
-    let mut i = 0;
-    while i < t.len() {
-        t[i] = 0;
-        i += 1;
-    }
+    t.fill(0);
     set_rows_at(t, ROWS_BEGIN);
 }
