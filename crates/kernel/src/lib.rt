@@ -22,10 +22,10 @@ pub fn stewlattice_start(table: &mut [u8], book: &[u8]) -> u64
     ensures { Started (start_of table.old book.now) table.new result }
 {
     if !is_long(table) {
-        return pack(Err(Refusal::UnsoundTable));
+        return pack(Err(Refusal::BadTable));
     }
     if !is_sound(book) {
-        return pack(Err(Refusal::UnsoundBook));
+        return pack(Err(Refusal::BadBook));
     }
     fresh(table, book);
     pack(done(0, 0))
@@ -40,9 +40,9 @@ fn decide(table: &mut [u8], book: &[u8], event: &[u8], out: &mut [u8]) -> Result
         return Err(Refusal::ShortRoom);
     }
     if !sound(table) {
-        return Err(Refusal::UnsoundTable);
+        return Err(Refusal::BadTable);
     }
-    let e = read(event).ok_or(Refusal::Malformed)?;
+    let e = read(event).ok_or(Refusal::BadFrame)?;
     serve(table, book, event, out, e)
 }
 

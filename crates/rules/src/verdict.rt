@@ -9,18 +9,18 @@ pub struct Done {
     pub written: u16,
 }
 
-// Refusals, in the order of document 01's list, whose numbers they have.
+// Refusals, in the order of document 01's list, whose numbers they have, under the names of the header.
 #[derive(Clone, Copy, Debug, PartialEq, Eq)]
 pub enum Refusal {
     ShortRoom = 1,
-    UnsoundTable,
-    Malformed,
-    NotLive,
+    BadTable,
+    BadFrame,
+    NoSender,
     BadKey,
-    UnsoundBook,
-    UnfitSuffix,
-    TooManyTabs,
-    Spent,
+    BadBook,
+    BadSuffix,
+    FullSeat,
+    SpentSeat,
     NotAwaited,
 }
 

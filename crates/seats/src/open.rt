@@ -16,29 +16,29 @@ use soundness::tab::owner_at;
 use table::find::process_with;
 use table::slots::live_tabs;
 
-// An unsound book, or a suffix that is not all of its own suffix under it. The question tells both.
-fn book_number(book: &[u8], x: &[u8]) -> Result<(), Refusal>
+// A sound book, and a suffix that is all of its own suffix under it. The question tells both.
+fn check_suffix(book: &[u8], x: &[u8]) -> Result<(), Refusal>
     ensures { number_given result ≡ book_number book.now x.now }
 {
     match names::suffix(x, book) {
         Ok(own) if own.len() == x.len() => Ok(()),
-        Ok(_) => Err(Refusal::UnfitSuffix),
-        Err(NoSuffix::UnsoundBook) => Err(Refusal::UnsoundBook),
-        Err(NoSuffix::Unfit) => Err(Refusal::UnfitSuffix),
+        Ok(_) => Err(Refusal::BadSuffix),
+        Err(NoSuffix::UnsoundBook) => Err(Refusal::BadBook),
+        Err(NoSuffix::Unfit) => Err(Refusal::BadSuffix),
     }
 }
 
-// What an open is refused for, whatever its room.
-fn open_number(t: &[u8], book: &[u8], x: &[u8], s: usize) -> Result<(), Refusal>
+// An open that the book and the table take.
+fn check_open(t: &[u8], book: &[u8], x: &[u8], s: usize) -> Result<(), Refusal>
     requires { Opening t.now s }
     ensures { number_given result ≡ open_number (desk_at t.now s) book.now x.now }
 {
-    book_number(book, x)?;
+    check_suffix(book, x)?;
     if live_tabs(t, s) == 10 {
-        return Err(Refusal::TooManyTabs);
+        return Err(Refusal::FullSeat);
     }
     if is_spent(t, s) {
-        return Err(Refusal::Spent);
+        return Err(Refusal::SpentSeat);
     }
     Ok(())
 }
@@ -92,6 +92,6 @@ pub fn open(t: &mut [u8], book: &[u8], out: &mut [u8], s: usize, x: &[u8]) -> Re
     requires { Ready t.old out.old s }
     ensures { Replied t.old s (open_rule (desk_at t.old s) book.now x.now) out.old t.new out.new result }
 {
-    open_number(t, book, x, s)?;
+    check_open(t, book, x, s)?;
     take(t, out, s, x)
 }

@@ -83,7 +83,7 @@ fn seat_sends(
     ensures { Decided (event_rule t.old book.now e.now (Seat s m)) out.old t.new out.new result }
 {
     if !is_let(t, s) {
-        return Err(Refusal::NotLive);
+        return Err(Refusal::NoSender);
     }
     from_seat(t, book, e, out, s, m)
 }
@@ -99,7 +99,7 @@ fn tab_sends(
     requires { Able t.old out.old × TabIn e.now m }
     ensures { Decided (event_rule t.old book.now e.now (Tab i m)) out.old t.new out.new result }
 {
-    let place = tab_of(t, i).ok_or(Refusal::NotLive)?;
+    let place = tab_of(t, i).ok_or(Refusal::NoSender)?;
     from_tab(t, book, e, out, place.seat, place.slot, m)
 }
 
@@ -114,7 +114,7 @@ fn process_sends(
     requires { Able t.old out.old × PartIn e.now d.body }
     ensures { Decided (event_rule t.old book.now e.now (Process n d)) out.old t.new out.new result }
 {
-    process_of(t, n).ok_or(Refusal::NotLive)?;
+    process_of(t, n).ok_or(Refusal::NoSender)?;
     let place = tab_of(t, d.tab).ok_or(Refusal::NotAwaited)?;
     result(t, out, place.seat, place.slot, n, part_of(e, d.body))
 }
@@ -131,7 +131,7 @@ fn network_sends(
     ensures { Decided (event_rule t.old b.now e.now (Network n d)) out.old t.new out.new result }
 {
     if n != 0 {
-        return Err(Refusal::NotLive);
+        return Err(Refusal::NoSender);
     }
     let place = tab_of(t, d.tab).ok_or(Refusal::NotAwaited)?;
     document(t, out, place.seat, place.slot, part_of(e, d.body))

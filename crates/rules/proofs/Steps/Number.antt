@@ -18,21 +18,21 @@ use Rattle.rules.specs.Rule.Seat.{acceptable}
 use Rattle.rules.specs.Rule.Refusal.{number_of}
 use Rattle.rules.specs.Held.{book_number, open_number}
 use Rattle.rules.specs.declared.verdict.Refusal.{Refusal}
-use Rattle.rules.specs.declared.verdict.Refusal.TheVariants.{ShortRoom, UnsoundTable, Malformed, NotLive, BadKey}
-use Rattle.rules.specs.declared.verdict.Refusal.TheVariants.{UnsoundBook, UnfitSuffix, TooManyTabs, Spent, NotAwaited}
+use Rattle.rules.specs.declared.verdict.Refusal.TheVariants.{ShortRoom, BadTable, BadFrame, NoSender, BadKey}
+use Rattle.rules.specs.declared.verdict.Refusal.TheVariants.{BadBook, BadSuffix, FullSeat, SpentSeat, NotAwaited}
 
 -- ---- a refusal has a number
 
 pub refusal_numbered : (why : Refusal) → number_of why ≢ 0
 refusal_numbered ShortRoom e = omega (arith, e)
-refusal_numbered UnsoundTable e = omega (arith, e)
-refusal_numbered Malformed e = omega (arith, e)
-refusal_numbered NotLive e = omega (arith, e)
+refusal_numbered BadTable e = omega (arith, e)
+refusal_numbered BadFrame e = omega (arith, e)
+refusal_numbered NoSender e = omega (arith, e)
 refusal_numbered BadKey e = omega (arith, e)
-refusal_numbered UnsoundBook e = omega (arith, e)
-refusal_numbered UnfitSuffix e = omega (arith, e)
-refusal_numbered TooManyTabs e = omega (arith, e)
-refusal_numbered Spent e = omega (arith, e)
+refusal_numbered BadBook e = omega (arith, e)
+refusal_numbered BadSuffix e = omega (arith, e)
+refusal_numbered FullSeat e = omega (arith, e)
+refusal_numbered SpentSeat e = omega (arith, e)
 refusal_numbered NotAwaited e = omega (arith, e)
 
 -- ---- the suffix

@@ -19,7 +19,7 @@ use Rattle.rules.proofs.Laws.Frame.{length_part}
 use Rattle.rules.proofs.Steps.Decide.{decided_refused, decided_replied}
 use Rattle.rules.specs.declared.verdict.Done.{Done}
 use Rattle.rules.specs.declared.verdict.Refusal.{Refusal}
-use Rattle.rules.specs.declared.verdict.Refusal.TheVariants.{NotLive, NotAwaited}
+use Rattle.rules.specs.declared.verdict.Refusal.TheVariants.{NoSender, NotAwaited}
 use Rattle.rules.specs.declared.event.Part.{Part}
 use Rattle.rules.specs.declared.event.Delivery.{Delivery}
 use Rattle.rules.specs.declared.event.SeatMessage.{SeatMessage}
@@ -110,28 +110,28 @@ tab_there {t} {o} {s} {k} i w e h =
 
 module _ {t o : List ℕ} (b e : List ℕ) where
   pub seat_unlet : {r : Bool} (s : ℕ) (m : SeatMessage) → r ≡ not (eqb (view t (tenant s)) 0) → r ≡ false
-      → Decided (event_rule t b e (Seat s m)) o t o (Err NotLive)
+      → Decided (event_rule t b e (Seat s m)) o t o (Err NoSender)
   unfolding event_rule
-  seat_unlet s m f h = decided_refused NotLive (rw (not-false (eqb (view t (tenant s)) 0) (sym f ∙ h)))
+  seat_unlet s m f h = decided_refused NoSender (rw (not-false (eqb (view t (tenant s)) 0) (sym f ∙ h)))
 
   pub tab_dead : {place : Option Place} (i : ℕ) (m : TabMessage) → place ≡ tab_of (view t) i → place ≡ None
-      → Decided (event_rule t b e (Tab i m)) o t o (Err NotLive)
+      → Decided (event_rule t b e (Tab i m)) o t o (Err NoSender)
   unfolding event_rule at_tab
-  tab_dead i m f h = decided_refused NotLive (rw (sym f ∙ h))
+  tab_dead i m f h = decided_refused NoSender (rw (sym f ∙ h))
 
   pub process_dead : {p : ℕ} (n : ℕ) (d : Delivery) → p ≡ process_of (view t) n → p ≡ 0
-      → Decided (event_rule t b e (Process n d)) o t o (Err NotLive)
+      → Decided (event_rule t b e (Process n d)) o t o (Err NoSender)
   unfolding event_rule
-  process_dead n d f h = decided_refused NotLive (rw (eq-eqb (process_of (view t) n) 0 (sym f ∙ h)))
+  process_dead n d f h = decided_refused NoSender (rw (eq-eqb (process_of (view t) n) 0 (sym f ∙ h)))
 
   pub process_nowhere : {p : ℕ} {place : Option Place} (n : ℕ) (d : Delivery) → p ≡ process_of (view t) n → p ≢ 0
       → place ≡ tab_of (view t) d.tab → place ≡ None → Decided (event_rule t b e (Process n d)) o t o (Err NotAwaited)
   unfolding event_rule at_tab
   process_nowhere n d f h q z = decided_refused NotAwaited (rw (ne_eqb (process_of (view t) n) 0 (λ y. h (f ∙ y)), sym q ∙ z))
 
-  pub network_other : (n : ℕ) (d : Delivery) → n ≢ 0 → Decided (event_rule t b e (Network n d)) o t o (Err NotLive)
+  pub network_other : (n : ℕ) (d : Delivery) → n ≢ 0 → Decided (event_rule t b e (Network n d)) o t o (Err NoSender)
   unfolding event_rule
-  network_other n d h = decided_refused NotLive (rw (ne_eqb n 0 h))
+  network_other n d h = decided_refused NoSender (rw (ne_eqb n 0 h))
 
   pub network_nowhere : {place : Option Place} (n : ℕ) (d : Delivery) → n ≡ 0 → place ≡ tab_of (view t) d.tab → place ≡ None
       → Decided (event_rule t b e (Network n d)) o t o (Err NotAwaited)

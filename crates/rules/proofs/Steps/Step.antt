@@ -12,7 +12,7 @@ use Rattle.rules.specs.Held.{number_given, actions_given, written_given, Says, D
 use Rattle.rules.proofs.Steps.Decide.{decided_refused}
 use Rattle.rules.specs.declared.verdict.Done.{Done}
 use Rattle.rules.specs.declared.verdict.Refusal.{Refusal}
-use Rattle.rules.specs.declared.verdict.Refusal.TheVariants.{ShortRoom, UnsoundTable, Malformed}
+use Rattle.rules.specs.declared.verdict.Refusal.TheVariants.{ShortRoom, BadTable, BadFrame}
 use Rattle.rules.specs.declared.event.Event.{Event}
 
 -- ---- decide
@@ -23,14 +23,14 @@ module _ {t o : List ℕ} (b e : List ℕ) where
   room_small h = decided_refused ShortRoom (rw (lt-ltb (length o) room_needed h))
 
   pub table_unsound : {r : Bool} → room_needed ≤ length o → r ≡ sound_table t → r ≡ false
-      → Decided (step_of (length o) t b e) o t o (Err UnsoundTable)
+      → Decided (step_of (length o) t b e) o t o (Err BadTable)
   unfolding step_of
-  table_unsound h f k = decided_refused UnsoundTable (rw (le-ltb (length o) room_needed h, sym f ∙ k))
+  table_unsound h f k = decided_refused BadTable (rw (le-ltb (length o) room_needed h, sym f ∙ k))
 
   pub event_malformed : {r : Bool} {v : Option Event} → room_needed ≤ length o → r ≡ sound_table t → r ≡ true → v ≡ reading_of e
-      → v ≡ None → Decided (step_of (length o) t b e) o t o (Err Malformed)
+      → v ≡ None → Decided (step_of (length o) t b e) o t o (Err BadFrame)
   unfolding step_of read_rule
-  event_malformed h f k q z = decided_refused Malformed (rw (le-ltb (length o) room_needed h, sym f ∙ k, sym q ∙ z))
+  event_malformed h f k q z = decided_refused BadFrame (rw (le-ltb (length o) room_needed h, sym f ∙ k, sym q ∙ z))
 
 pub event_served : {o t' o' : List ℕ} {g : Result Done Refusal} {r : Bool} {v : Option Event} (t b e : List ℕ) (w : Event)
     → room_needed ≤ length o

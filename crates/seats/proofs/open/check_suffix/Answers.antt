@@ -1,7 +1,7 @@
 -- The question's refusal; then the part is all of x exactly if it is as long. Assumes nothing.
 use Rattle.std.proofs.Common.{arith, refl}
 use Rattle.rules.proofs.Steps.Number.{book_six, book_seven, book_part, book_takes}
-use Rattle.seats.proofs.open.book_number.Goals as goal
+use Rattle.seats.proofs.open.check_suffix.Goals as goal
 
 pub returns-in-Ok : goal.returns-in-Ok
 returns-in-Ok c = let told = c.in-Ok.ensures.given in book_takes _ _ told.says told.gives refl c.if-own-x.true
