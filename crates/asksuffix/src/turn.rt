@@ -24,6 +24,7 @@ fn answer(held: &[u8], book: &[u8], out: &mut [u8], p: Place) -> Place
 }
 
 // Nothing more comes, and what is held is no host.
+#[tactic(auto, unfolding(crate::specs::Turn::last))]
 fn stop(p: Place) -> Place
     ensures { result ≡ last p }
 {

@@ -4,6 +4,7 @@ ghost use Rattle.logs.specs.Log.{digits, decimal, hex_digit, hex};
 ghost use Rattle.rules.specs.Inner.{Wrote};
 
 // One byte; the place after it is given.
+#[tactic(auto, using(rules::proofs::Laws::Wrote::wrote_byte))]
 pub fn put(out: &mut [u8], at: usize, x: u8) -> usize
     requires { at < length out.old }
     ensures { Wrote out.old at (x ∷ []) out.new result }

@@ -13,10 +13,6 @@ use Rattle.asksuffix.specs.Laws.Line.{length_line}
 use Rattle.reader.specs.Laws.Past.{outset_sound}
 use Rattle.reader.specs.declared.place.Place.{Place}
 
--- as many turns as the loop makes at most
-abbrev pub turns : ℕ
-turns = 18446744073709551615
-
 -- ---- any turn
 
 -- what the place of a turn's end is like, whatever it did
