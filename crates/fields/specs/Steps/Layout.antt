@@ -1,6 +1,6 @@
 -- Equations that src/layout.rt goes by: where a field lies, what it shows there, what writing there leaves; and the table's
 -- numbers. Assumes nothing.
-use Rattle.std.specs.Prelude.{◌≡◌, true, ◌&&◌, List, ◌∷◌, ℕ, zero, suc, ◌+◌, ◌-◌, ◌*◌, ◌/◌, ◌%◌, eqb, length, replicate}
+use Rattle.std.specs.Prelude.{◌≡◌, true, ◌&&◌, List, ◌∷◌, ℕ, zero, suc, ◌+◌, ◌-◌, ◌*◌, ◌/◌, ◌%◌, ◌<◌, eqb, length, get_or, set, replicate}
 use Rattle.std.proofs.Math.Path.{refl, sym}
 use Rattle.std.proofs.Common.{ap, ◌∙◌}
 use Rattle.terms.specs.Base.{Range}
@@ -13,7 +13,7 @@ use Rattle.fields.specs.Rule.Fresh.{blank}
 use Rattle.fields.specs.Held.{WroteField}
 use Rattle.fields.specs.Laws.Each.{in_range, in_ranges}
 use Rattle.terms.specs.Names.{num, put}
-use Rattle.terms.specs.Laws.Num.{length_put}
+use Rattle.terms.specs.Laws.Num.{length_put, num1, put1}
 
 -- ---- the table's numbers
 
@@ -75,6 +75,14 @@ write_is t x l = rw (l.place, l.wide)
 pub wrote : {t u : List ℕ} {f : Field} {at w x : ℕ} → length t ≡ table_bytes → Lies f at w → u ≡ put t at w x → WroteField t u f x
 wrote {t} {u} {f} {at} {w} {x} long l e =
     record { long = ap length e ∙ length_put t at w x ∙ long; is = e ∙ sym (write_is t x l) }
+
+-- the same of a byte
+pub seen_byte : {f : Field} {at : ℕ} (t : List ℕ) → Lies f at 1 → view t f ≡ get_or t at 0
+seen_byte {f} {at} t l = seen t l ∙ num1 t at
+
+pub wrote_byte : {t u : List ℕ} {f : Field} {at x : ℕ} → length t ≡ table_bytes → Lies f at 1 → x < 256 → u ≡ set t at x
+    → WroteField t u f x
+wrote_byte {t} {u} {f} {at} {x} long l h e = wrote long l (e ∙ sym (put1 t at x h))
 
 -- ---- a seat's
 

@@ -5,70 +5,69 @@ ghost use Rattle.fields.specs.Table.{tenant, options, selected, seat_zero, opens
 ghost use Rattle.fields.specs.Inner.{WroteField};
 
 use crate::layout::{MOST_OPENS, seat_at};
-use terms::byte::wide;
-use terms::num::{one_at, put_one, put_two, two_at};
+use terms::num::{num_at, put_num};
 
 pub fn tenant(t: &[u8], s: usize) -> u8
     requires { SeatOf t.now s }
     ensures { result ≡ view t.now (tenant s) }
 {
-    one_at(t, seat_at(s))
+    t[seat_at(s)]
 }
 
 pub fn set_tenant(t: &mut [u8], s: usize, x: u8)
     requires { SeatOf t.old s }
     ensures { WroteField t.old t.new (tenant s) x }
 {
-    put_one(t, seat_at(s), x);
+    t[seat_at(s)] = x;
 }
 
 pub fn options(t: &[u8], s: usize) -> u8
     requires { SeatOf t.now s }
     ensures { result ≡ view t.now (options s) }
 {
-    one_at(t, seat_at(s) + 1)
+    t[seat_at(s) + 1]
 }
 
 pub fn set_options(t: &mut [u8], s: usize, x: u8)
     requires { SeatOf t.old s }
     ensures { WroteField t.old t.new (options s) x }
 {
-    put_one(t, seat_at(s) + 1, x);
+    t[seat_at(s) + 1] = x;
 }
 
 pub fn selected(t: &[u8], s: usize) -> usize
     requires { SeatOf t.now s }
     ensures { (result ≡ view t.now (selected s)) × (result < 256) }
 {
-    wide(one_at(t, seat_at(s) + 2))
+    usize::from(t[seat_at(s) + 2])
 }
 
 pub fn set_selected(t: &mut [u8], s: usize, x: usize)
     requires { (SeatOf t.old s) × (x < 256) }
     ensures { WroteField t.old t.new (selected s) x }
 {
-    put_one(t, seat_at(s) + 2, x as u8);
+    t[seat_at(s) + 2] = x as u8;
 }
 
 pub fn seat_zero(t: &[u8], s: usize) -> u8
     requires { SeatOf t.now s }
     ensures { result ≡ view t.now (seat_zero s) }
 {
-    one_at(t, seat_at(s) + 3)
+    t[seat_at(s) + 3]
 }
 
 pub fn opens(t: &[u8], s: usize) -> usize
     requires { SeatOf t.now s }
     ensures { (result ≡ view t.now (opens s)) × (result ≤ most_opens) }
 {
-    two_at(t, seat_at(s) + 4)
+    num_at::<2>(t, seat_at(s) + 4)
 }
 
 pub fn set_opens(t: &mut [u8], s: usize, x: usize)
     requires { (SeatOf t.old s) × (x ≤ most_opens) }
     ensures { WroteField t.old t.new (opens s) x }
 {
-    put_two(t, seat_at(s) + 4, x);
+    put_num::<2>(t, seat_at(s) + 4, x);
 }
 
 // No open is left to the seat.
@@ -83,12 +82,12 @@ pub fn slots(t: &[u8], s: usize) -> usize
     requires { SeatOf t.now s }
     ensures { (result ≡ view t.now (slots s)) × (result < 65536) }
 {
-    two_at(t, seat_at(s) + 6)
+    num_at::<2>(t, seat_at(s) + 6)
 }
 
 pub fn set_slots(t: &mut [u8], s: usize, x: usize)
     requires { (SeatOf t.old s) × (x < 65536) }
     ensures { WroteField t.old t.new (slots s) x }
 {
-    put_two(t, seat_at(s) + 6, x);
+    put_num::<2>(t, seat_at(s) + 6, x);
 }

@@ -6,4 +6,4 @@ use Rattle.fields.proofs.layout.row_fields.number.Goals as goal
 pub returns : goal.returns
 returns c =
     let lies = number_lies c.requires.row c.row_at.ensures.0 in
-    (c.four_at.ensures.0 ∙ sym (seen c.args.t.now lies), omega (arith, c.four_at.ensures.1, most_number_lem))
+    (c.num_at.ensures.number ∙ sym (seen c.args.t.now lies), omega (arith, c.num_at.ensures.small, most_number_lem))

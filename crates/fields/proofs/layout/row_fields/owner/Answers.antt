@@ -1,9 +1,9 @@
 -- The byte that is read is the field's. Assumes nothing.
-use Rattle.std.proofs.Common.{sym, ◌∙◌}
-use Rattle.fields.specs.Steps.Layout.{seen, owner_lies}
+use Rattle.std.proofs.Common.{sym}
+use Rattle.fields.specs.Steps.Layout.{seen_byte, owner_lies}
 use Rattle.fields.proofs.layout.row_fields.owner.Goals as goal
 
 pub returns : goal.returns
 returns c =
     let lies = owner_lies c.requires.row c.row_at.ensures.0 in
-    c.one_at.ensures ∙ sym (seen c.args.t.now lies)
+    sym (seen_byte c.args.t.now lies)

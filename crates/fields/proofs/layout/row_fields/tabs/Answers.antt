@@ -1,9 +1,9 @@
 -- The byte that is read is the field's. Assumes nothing.
-use Rattle.std.proofs.Common.{sym, ◌∙◌}
-use Rattle.fields.specs.Steps.Layout.{seen, tabs_lies}
+use Rattle.std.proofs.Common.{rules, sym, ◌∙◌}
+use Rattle.fields.specs.Steps.Layout.{seen_byte, tabs_lies}
 use Rattle.fields.proofs.layout.row_fields.tabs.Goals as goal
 
 pub returns : goal.returns
 returns c =
     let lies = tabs_lies c.requires.row c.row_at.ensures.0 in
-    (c.wide.ensures.0 ∙ c.one_at.ensures ∙ sym (seen c.args.t.now lies), c.wide.ensures.1)
+    (c.from.ensures ∙ sym (seen_byte c.args.t.now lies), search rules)

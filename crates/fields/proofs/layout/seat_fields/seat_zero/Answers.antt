@@ -1,9 +1,9 @@
 -- The byte that is read is the field's. Assumes nothing.
-use Rattle.std.proofs.Common.{sym, ◌∙◌}
-use Rattle.fields.specs.Steps.Layout.{seen, seat_zero_lies}
+use Rattle.std.proofs.Common.{sym}
+use Rattle.fields.specs.Steps.Layout.{seen_byte, seat_zero_lies}
 use Rattle.fields.proofs.layout.seat_fields.seat_zero.Goals as goal
 
 pub returns : goal.returns
 returns c =
     let lies = seat_zero_lies c.requires.seat c.seat_at.ensures.0 in
-    c.one_at.ensures ∙ sym (seen c.args.t.now lies)
+    sym (seen_byte c.args.t.now lies)

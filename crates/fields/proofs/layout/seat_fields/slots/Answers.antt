@@ -6,4 +6,4 @@ use Rattle.fields.proofs.layout.seat_fields.slots.Goals as goal
 pub returns : goal.returns
 returns c =
     let lies = slots_lies c.requires.seat c.seat_at.ensures.0 in
-    (c.two_at.ensures.0 ∙ sym (seen c.args.t.now lies), c.two_at.ensures.1)
+    (c.num_at.ensures.number ∙ sym (seen c.args.t.now lies), c.num_at.ensures.small)

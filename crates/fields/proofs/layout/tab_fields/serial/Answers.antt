@@ -6,4 +6,4 @@ use Rattle.fields.proofs.layout.tab_fields.serial.Goals as goal
 pub returns : goal.returns
 returns c =
     let lies = serial_lies c.requires.seat c.requires.slot c.tab_at.ensures.0 in
-    (c.two_at.ensures.0 ∙ sym (seen c.args.t.now lies), omega (arith, c.two_at.ensures.1, most_opens_lem))
+    (c.num_at.ensures.number ∙ sym (seen c.args.t.now lies), omega (arith, c.num_at.ensures.small, most_opens_lem))

@@ -3,10 +3,10 @@ use Rattle.std.proofs.Common.{arith}
 use Rattle.fields.specs.Steps.Layout.{wrote, serial_lies, most_opens_lem}
 use Rattle.fields.proofs.layout.tab_fields.set_serial.Goals as goal
 
-pub put_two-requires : goal.put_two-requires
-put_two-requires c = omega (arith, c, most_opens_lem)
+pub put_num-requires : goal.put_num-requires
+put_num-requires c = omega (arith, c, most_opens_lem)
 
 pub returns : goal.returns
 returns c =
     let lies = serial_lies c.requires.0.seat c.requires.0.slot c.tab_at.ensures.0 in
-    wrote c.requires.0.long lies c.put_two.ensures
+    wrote c.requires.0.long lies c.put_num.ensures

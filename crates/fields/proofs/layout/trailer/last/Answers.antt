@@ -3,10 +3,10 @@ use Rattle.std.proofs.Common.{arith, sym, ◌∙◌}
 use Rattle.fields.specs.Steps.Layout.{table_bytes_lem, seen, last_lies, most_number_lem}
 use Rattle.fields.proofs.layout.trailer.last.Goals as goal
 
-pub four_at-requires : goal.four_at-requires
-four_at-requires c = omega (arith, table_bytes_lem)
+pub num_at-requires-clause-inside : goal.num_at-requires-clause-inside
+num_at-requires-clause-inside c = omega (arith, table_bytes_lem)
 
 pub returns : goal.returns
 returns c =
     let t = c.args.t.now in
-    (c.four_at.ensures.0 ∙ sym (seen t last_lies), omega (arith, c.four_at.ensures.1, most_number_lem))
+    (c.num_at.ensures.number ∙ sym (seen t last_lies), omega (arith, c.num_at.ensures.small, most_number_lem))
