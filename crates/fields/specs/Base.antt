@@ -1,7 +1,7 @@
 -- The words that the table's definitions are written in. Seats, slots, rows and places are counted from 1, as the document
 -- counts them: each of 1 to n, no two of them, the sum, how many, the lowest. They are open (`unfoldable`), as those of terms.
 -- Assumes nothing.
-use Rattle.std.specs.Prelude.{ℕ, zero, suc, ◌+◌, ◌-◌, ◌*◌, ◌^◌, Bool, true, false, not, ◌&&◌, cond, List, [], ◌∷◌, eqb, Option, None, Some}
+use Rattle.std.specs.Prelude.{ℕ, zero, suc, ◌+◌, ◌-◌, ◌*◌, ◌^◌, Bool, true, false, not, ◌&&◌, cond, List, [], ◌∷◌, eqb}
 
 -- f holds of 1, 2, .., n
 unfoldable pub each : ℕ → (ℕ → Bool) → Bool
@@ -29,11 +29,6 @@ count n f = sum n (λ k. one (f k))
 unfoldable pub lowest : ℕ → (ℕ → Bool) → ℕ
 lowest zero f = 0
 lowest (suc n) f = cond (eqb (lowest n f) 0) (cond (f (suc n)) (suc n) 0) (lowest n f)
-
--- a number found, counted from 1, as an option: 0 says that there is none
-abbrev pub if_any : ℕ → Option ℕ
-if_any zero = None
-if_any (suc n) = Some (suc n)
 
 -- the number whose bit k-1 is set for each k of 1 to n that passes, and no other bit
 unfoldable pub bits : ℕ → (ℕ → Bool) → ℕ

@@ -2,8 +2,7 @@
 // suffix, a free process row. A process row is given by its number from 1.
 ghost use Rattle.std.specs.Prelude.{◌≡◌, not, length, eqb};
 ghost use Rattle.std.specs.Option.{IfSome};
-ghost use Rattle.terms.specs.Base.{Range};
-ghost use Rattle.fields.specs.Base.{if_any};
+ghost use Rattle.terms.specs.Base.{Range, if_any};
 ghost use Rattle.fields.specs.Table.{view, tenant, table_bytes, SeatOf, TabOf, RowOf};
 ghost use Rattle.fields.specs.Table.{tab_of, process_of, process_with, free_process};
 ghost use Rattle.fields.specs.Inner.{slot_of, tab_has, row_has, row_with};

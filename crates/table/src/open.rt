@@ -1,6 +1,6 @@
 // A tab is opened: in the lowest free slot, on the process row of its owner and suffix, or else on the lowest free one.
 ghost use Rattle.std.specs.Prelude.{◌≡◌};
-ghost use Rattle.fields.specs.Base.{if_any};
+ghost use Rattle.terms.specs.Base.{if_any};
 ghost use Rattle.fields.specs.Table.{view, owner_at, process_with, opened, Openable};
 
 use crate::find::free_process;

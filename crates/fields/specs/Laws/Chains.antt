@@ -14,9 +14,9 @@ use Rattle.std.proofs.lemmas.Iterator.{YieldsList-from_range, cases_from_all, fi
 use Rattle.std.proofs.lemmas.List.FromFn.{length-range_with_len, get_or-range_with_len}
 use denote.Param.Members.{Mut}
 use denote.Ref.{Bor}
-use Rattle.terms.specs.Base.{Range}
+use Rattle.terms.specs.Base.{Range, if_any}
 use Rattle.terms.specs.Laws.Bools.{and_both}
-use Rattle.fields.specs.Base.{each, lowest, if_any}
+use Rattle.fields.specs.Base.{each, lowest}
 use Rattle.fields.specs.Laws.Each.{range, each_of, each_not, each_none}
 use Rattle.fields.specs.Laws.Lowest.{lowest_none, lowest_is, some_any}
 

@@ -4,8 +4,8 @@ use Rattle.std.proofs.Math.Path.{sym, ap}
 use Rattle.std.proofs.Common.{◌∙◌, ⊎_elim, ne_eqb, eqb-true, arith, subst}
 use Rattle.std.proofs.lemmas.Bool.{eqb-false, false≢true}
 use Rattle.std.specs.Option.{IfSome, is_some}
-use Rattle.terms.specs.Base.{Range}
-use Rattle.fields.specs.Base.{lowest, if_any}
+use Rattle.terms.specs.Base.{Range, if_any}
+use Rattle.fields.specs.Base.{lowest}
 use Rattle.fields.specs.Laws.Each.{range, last_or}
 
 -- k is the lowest of 1 to n that passes

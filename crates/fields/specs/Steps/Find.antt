@@ -3,7 +3,7 @@ use Rattle.std.specs.Prelude.{◌≡◌, refl, true, false, not, ◌&&◌, List,
 use Rattle.std.proofs.Math.Path.{sym}
 use Rattle.std.proofs.Common.{ap, ◌∙◌}
 use borrow.Author.Tests.{eq-eqb, ne_eqb}
-use Rattle.terms.specs.Base.{within}
+use Rattle.terms.specs.Base.{within, if_any}
 use Rattle.terms.specs.Laws.Bools.{cases, fails}
 use Rattle.fields.specs.Rule.View.{View, there, tenant}
 use Rattle.fields.specs.Rule.Layout.{view, seat_of_id, serial_of_id}
@@ -12,7 +12,7 @@ use Rattle.fields.specs.Rule.Find.{placed, tab_has, row_has, row_with, slot_of, 
 use Rattle.fields.specs.Laws.Lowest.{lowest_none, any_none, any_some}
 use Rattle.fields.specs.Laws.Each.{in_range}
 use Rattle.std.proofs.lemmas.Bool.{false≢true}
-use Rattle.fields.specs.Base.{lowest, if_any}
+use Rattle.fields.specs.Base.{lowest}
 use Rattle.fields.specs.Laws.There.{absent, live_there}
 
 -- a seat that is not of the eight shows no tenant

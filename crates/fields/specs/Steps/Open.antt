@@ -2,8 +2,7 @@
 use Rattle.std.specs.Prelude.{◌≡◌, refl, true, ◌≢◌, List, ℕ, length}
 use Rattle.std.proofs.Common.{sym, ap, ap₂, ◌∙◌, subst, arith, ne_eqb}
 use Rattle.std.specs.Option.{is_some}
-use Rattle.terms.specs.Base.{Range}
-use Rattle.fields.specs.Base.{if_any}
+use Rattle.terms.specs.Base.{Range, if_any}
 use Rattle.fields.specs.Laws.Lowest.{some_any}
 use Rattle.fields.specs.Rule.Layout.{most_opens, view}
 use Rattle.fields.specs.Rule.Word.{owner_at}

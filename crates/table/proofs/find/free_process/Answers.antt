@@ -1,7 +1,7 @@
 -- The chain asks each row, and stops at the first that passes. Assumes nothing.
 use Rattle.std.proofs.Common.{ap, not, refl, rules, sym, ◌∙◌}
 use borrow.Author.Tests.{tests}
-use Rattle.fields.specs.Base.{if_any}
+use Rattle.terms.specs.Base.{if_any}
 use Rattle.fields.specs.Table.{used, view}
 use Rattle.fields.specs.Laws.Lowest.{any_in}
 use Rattle.fields.specs.Laws.Chains.{find_lowest}

@@ -1,7 +1,7 @@
 -- The chain asks each slot, and stops at the first that passes. Assumes nothing.
 use Rattle.std.proofs.Common.{ap, refl, rules, sym, ◌∙◌}
 use borrow.Author.Tests.{tests}
-use Rattle.fields.specs.Base.{if_any}
+use Rattle.terms.specs.Base.{if_any}
 use Rattle.fields.specs.Laws.Chains.{find_lowest}
 use Rattle.fields.specs.Steps.Find.{slot_is}
 use Rattle.table.proofs.find.slot_of.Goals as goal
