@@ -13,11 +13,12 @@
 --   Marks    mark_set, mark_gone: one mark leaves the other
 --   Room     room: a free slot leaves a free process row; what fits
 --   Cover    form_covers, view_ext: no byte of a table is left out, and a table of bytes is what it shows
--- Each, Sum, Lowest, Bits, Series and Few are laws of the words in Base. View, Layout, Form and Cover are the bytes; with Can and
--- Tab they are the laws that know the layout. Clause, Facts and Holds prove that the test of soundness and the record
--- agree, GoodParts and Good that the code's way is the document's; Letters tells a name by the 64 letters of its room. Seats, Rows,
--- Points and Links prove once that a change of one tab row and one process row keeps a table sound; Still, Open, Make, Renew, Close,
--- Leave, End and Quiet are the changes. Write and Can say that a table shows what was written; Blank and Ordered lead to Fresh.
+-- Each, Sum, Lowest, Bits, Series and Few are laws of the words in Base; Chains says `each` and `lowest` of the iterators' `all`
+-- and `find`. View, Layout, Form and Cover are the bytes; with Can and Tab they are the laws that know the layout. Clause, Facts and
+-- Holds prove that the test of soundness and the record agree, GoodParts and Good that the code's way is the document's; Letters
+-- tells a name by the 64 letters of its room. Seats, Rows, Points and Links prove once that a change of one tab row and one process
+-- row keeps a table sound; Still, Open, Make, Renew, Close, Leave, End and Quiet are the changes. Write and Can say that a table
+-- shows what was written; Blank and Ordered lead to Fresh.
 pub mod Each
 pub mod Sum
 pub mod Lowest

@@ -9,6 +9,7 @@ use fields::layout::{ROOM, ROWS, last, name, number, owner, row_zero, size, tabs
 use letters::{are_dotless, are_same, are_small, is_filled};
 use terms::name::is_name;
 
+#[tactic(auto, using(fields::specs::Steps::Row::used_is))]
 pub fn is_used(t: &[u8], p: usize) -> bool
     requires { RowOf t.now p }
     ensures { result ≡ used (view t.now) p }

@@ -8,6 +8,7 @@ use crate::row::is_used;
 use fields::layout::{ROWS, options, owner, row, serial, tenant, waiting};
 use terms::order::owner_of;
 
+#[tactic(auto, using(fields::specs::Steps::Tab::live_is))]
 pub fn is_live(t: &[u8], s: usize, k: usize) -> bool
     requires { TabOf t.now s k }
     ensures { result ≡ live (view t.now) s k }
@@ -16,6 +17,7 @@ pub fn is_live(t: &[u8], s: usize, k: usize) -> bool
 }
 
 // The owner of a seat, which is the owner of every process that its tabs hang on.
+#[tactic(auto, using(fields::specs::Steps::Tab::owner_is))]
 pub fn owner_at(t: &[u8], s: usize) -> u8
     requires { SeatOf t.now s }
     ensures { result ≡ owner_at (view t.now) s }

@@ -114,11 +114,12 @@ run_lt (suc n) f h = go (run_lt n (λ k. f (suc k))) (f 1) refl
         let d = ih (omega arith) in omega arith
     go ih false e = omega arith
 
--- ten slots in 64 bits, one of them free
-pub lowest_free : (f : ℕ → Bool) → count 10 f < 10 → count_trailing_zeros 64 (18446744073709551615 - bits 10 f) + 1 ≡ lowest 10 (λ k. not (f k))
-lowest_free f h =
+-- ten slots in more than ten bits, one of them free
+pub lowest_free : (m : ℕ) (f : ℕ → Bool) → count 10 f < 10
+    → count_trailing_zeros (10 + suc m) (2 ^ (10 + suc m) - 1 - bits 10 f) + 1 ≡ lowest 10 (λ k. not (f k))
+lowest_free m f h =
     let l = run_lt 10 f h in
-    let e : count_trailing_zeros 64 (18446744073709551615 - bits 10 f) ≡ run 10 f = trailing_run 10 53 f in
+    let e : count_trailing_zeros (10 + suc m) (2 ^ (10 + suc m) - 1 - bits 10 f) ≡ run 10 f = trailing_run 10 m f in
     ap (λ (x : ℕ). x + 1) e
     ∙ add-one (run 10 f)
     ∙ sym (lowest_is 10 (λ k. not (f k)) (suc (run 10 f))

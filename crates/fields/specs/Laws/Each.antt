@@ -1,4 +1,4 @@
--- Laws of `each` and `no_two`: to all of 1 to n and back, and a loop's three places. Assumes nothing.
+-- Laws of `each` and `no_two`: to all of 1 to n and back, and a loop that leaves nowhere. Assumes nothing.
 use Rattle.std.specs.Prelude.{◌≡◌, refl, Bool, false, not, ◌&&◌, ◌||◌, ◌≢◌, ◌⊎◌, ℕ, zero, suc, ◌+◌, ◌-◌, ◌≤◌, ◌<◌, eqb, leb}
 use Rattle.std.proofs.Math.Path.{sym, ap}
 use Rattle.std.proofs.Common.{ap₂, ◌∙◌, subst, le-leb, inl, inr, ⊎_elim, eqb-true, leb-true, leb-false, eq-or-lt_of_le, le_antisymm, arith}

@@ -1,4 +1,4 @@
--- Laws of `lowest`: what it finds, and a loop's three places. Assumes nothing.
+-- Laws of `lowest`: what it finds, and the same as an option. Assumes nothing.
 use Rattle.std.specs.Prelude.{◌≡◌, refl, Bool, true, false, not, cond, ◌≢◌, Option, None, Some, ℕ, zero, suc, ◌≤◌, ◌<◌, eqb}
 use Rattle.std.proofs.Math.Path.{sym, ap}
 use Rattle.std.proofs.Common.{◌∙◌, ⊎_elim, ne_eqb, eqb-true, arith, subst}

@@ -1,4 +1,4 @@
--- What table/src/find.rt finds at each of its exits. Assumes nothing.
+-- What table/src/find.rt seeks and finds. Assumes nothing.
 use Rattle.std.specs.Prelude.{◌≡◌, refl, true, false, not, ◌&&◌, List, ℕ, eqb, leb, Some, None}
 use Rattle.std.proofs.Math.Path.{sym}
 use Rattle.std.proofs.Common.{ap, ◌∙◌}

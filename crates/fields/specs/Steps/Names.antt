@@ -1,4 +1,4 @@
--- A process row's name: where `name` of src/layout.rt finds it, and the turns of the loop in links/src/spell.rt. Assumes nothing.
+-- A process row's name: where `name` of src/layout.rt finds it, and the turns of the loop in letters/src/spell.rt. Assumes nothing.
 use Rattle.std.specs.Prelude.{◌≡◌, refl, List, ◌∷◌, ℕ, zero, suc, ◌+◌, ◌-◌, ◌≤◌, ◌<◌, get_or, take, drop}
 use Rattle.std.proofs.Common.{ap, ap₂, sym, ◌∙◌, add-one, drop-cons, take-take, take_all}
 use native.Mathlib.Omega.{arith}

@@ -1,7 +1,6 @@
 -- The tests of soundness/src/row.rt of a process row in itself, and the loop of `is_filled` in letters/src/lib.rt. Assumes nothing.
-use Rattle.std.specs.Prelude.{◌≡◌, Bool, ◌&&◌, ◌||◌, cond, ◌≢◌, ℕ, ◌-◌, leb, eqb}
-use Rattle.std.proofs.Math.Path.{refl, sym, ap}
-use Rattle.std.proofs.Common.{◌∙◌}
+use Rattle.std.specs.Prelude.{◌≡◌, Bool, ◌&&◌, ◌||◌, cond, ℕ, ◌-◌, leb, eqb}
+use Rattle.std.proofs.Math.Path.{refl}
 use Rattle.std.proofs.Math.Bool.{true, false, not, and-false}
 use native.Mathlib.Omega.{arith}
 use borrow.Author.Tests.{le-leb, leb-true}
@@ -12,20 +11,14 @@ use Rattle.fields.specs.Rule.View.{View, number, owner, tabs, size, row_zero, le
 use Rattle.fields.specs.Rule.Clause.{row_spare, empty_row, filled, number_fits, good_name, name_formed, row_formed}
 use Rattle.fields.specs.Rule.Word.{used, name_of}
 use Rattle.fields.specs.Good.{tabs_true, bare_row, clash, row_good}
-use Rattle.fields.specs.Laws.Sound.{unused_zero, zero_unused, used_of}
+use Rattle.fields.specs.Laws.Sound.{unused_zero}
 use Rattle.fields.specs.Laws.Letters.{room_folded, room_dotted}
 use Rattle.fields.specs.Steps.Clash.{new_free}
 
 module _ (v : View) (p : ℕ) where
-  pub used_is : {n : ℕ} → n ≡ v (number p) → not (eqb n 0) ≡ used v p
+  pub used_is : used v p ≡ not (eqb (v (number p)) 0)
   unfolding used
-  used_is e = ap (λ (n : ℕ). not (eqb n 0)) e
-
-  pub used_if : {n : ℕ} → n ≡ v (number p) → n ≢ 0 → used v p ≡ true
-  used_if e h = used_of v p (λ z. h (e ∙ z))
-
-  pub unused_if : {n : ℕ} → n ≡ v (number p) → n ≡ 0 → used v p ≡ false
-  unused_if e z = zero_unused v p (sym e ∙ z)
+  used_is = refl
 
   -- ---- a letter: no capital, no dot
 

@@ -29,5 +29,5 @@ module _ (t : List ℕ) (s : ℕ) where
   free_found {m} {n} h e f =
       let a : n + 1 ≡ free_slot (view t) s
       = ap (λ (x : ℕ). x + 1) (f ∙ ap (λ (x : ℕ). count_trailing_zeros 64 (18446744073709551615 - x)) (map_is h.sound h.seat e))
-      ∙ lowest_free (λ k. live (view t) s k) h.slot in
+      ∙ lowest_free 53 (λ k. live (view t) s k) h.slot in
       (a, subst (Range 1 10) (sym a) (free_slot_lem (view t) s h.slot).slot)

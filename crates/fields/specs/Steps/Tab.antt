@@ -1,7 +1,6 @@
 -- The tests of soundness/src/tab.rt. Assumes nothing.
-use Rattle.std.specs.Prelude.{◌≡◌, refl, Bool, true, false, ◌&&◌, ◌||◌, cond, ◌≢◌, List, ℕ, ◌-◌, ◌<◌, leb}
-use Rattle.std.proofs.Math.Path.{sym, ap, ap₂}
-use Rattle.std.proofs.Common.{◌∙◌, arith}
+use Rattle.std.specs.Prelude.{◌≡◌, refl, Bool, true, false, ◌&&◌, ◌||◌, cond, List, ℕ, ◌-◌, ◌<◌, leb}
+use Rattle.std.proofs.Common.{arith}
 use Rattle.std.proofs.Math.Bool.{not, and-false}
 use Rattle.std.proofs.Math.Dec.{eqb}
 use borrow.Author.Tests.{le-leb}
@@ -16,7 +15,7 @@ use Rattle.fields.specs.Rule.Word.{live, used, owner_at}
 use Rattle.fields.specs.Good.{tab_good}
 use Rattle.fields.specs.Laws.There.{absent}
 use Rattle.fields.specs.Laws.Each.{each_of}
-use Rattle.fields.specs.Laws.Sound.{live_of, zero_free, zero_unused}
+use Rattle.fields.specs.Laws.Sound.{zero_free, zero_unused}
 use Rattle.fields.specs.Laws.Clause.{empty_tab_lem}
 
 turned : (a b : Bool) → a && true && b ≡ b && a
@@ -33,20 +32,14 @@ unfolding there
 free_high t s k h = zero_free (view t) s k (absent t (serial s k) (rw (within_high 1 10 k h) (and-false (within 1 8 s))))
 
 module _ (v : View) (s : ℕ) where
-  pub owner_is : {a b r : ℕ} → a ≡ v (tenant s) → b ≡ v (options s) → r ≡ owner_of s a b → r ≡ owner_at v s
+  pub owner_is : owner_at v s ≡ owner_of s (v (tenant s)) (v (options s))
   unfolding owner_at
-  owner_is e f h = h ∙ ap₂ (λ (a b : ℕ). owner_of s a b) e f
+  owner_is = refl
 
   module _ (k : ℕ) where
-    pub live_is : {n : ℕ} → n ≡ v (serial s k) → not (eqb n 0) ≡ live v s k
+    pub live_is : live v s k ≡ not (eqb (v (serial s k)) 0)
     unfolding live
-    live_is e = ap (λ (n : ℕ). not (eqb n 0)) e
-
-    pub live_if : {n : ℕ} → n ≡ v (serial s k) → n ≢ 0 → live v s k ≡ true
-    live_if e h = live_of v s k (λ z. h (e ∙ z))
-
-    pub free_if : {n : ℕ} → n ≡ v (serial s k) → n ≡ 0 → live v s k ≡ false
-    free_if e z = zero_free v s k (sym e ∙ z)
+    live_is = refl
 
     -- ---- the tests as the code asks them
 
