@@ -1,7 +1,9 @@
 -- A process row's name: where `name` of src/layout.rt finds it, and the turns of the loop in letters/src/spell.rt. Assumes nothing.
-use Rattle.std.specs.Prelude.{◌≡◌, refl, List, ◌∷◌, ℕ, zero, suc, ◌+◌, ◌-◌, ◌≤◌, ◌<◌, get_or, take, drop}
+use Rattle.std.specs.Prelude.{◌≡◌, refl, List, ◌∷◌, ℕ, zero, suc, ◌+◌, ◌-◌, ◌≤◌, ◌<◌, get_or, take, drop, leb, min}
 use Rattle.std.proofs.Common.{ap, ap₂, sym, ◌∙◌, add-one, drop-cons, take-take, take_all}
 use native.Mathlib.Omega.{arith}
+use Rattle.std.proofs.Common.{leb-true, leb-false}
+use Rattle.terms.specs.Laws.Bools.{cases}
 use Rattle.std.proofs.Math.ListN.{length, length-take}
 use Rattle.terms.specs.Base.{Range}
 use Rattle.fields.specs.Base.{series}
@@ -47,18 +49,24 @@ module _ {t : List ℕ} {p at : ℕ} (in_row : RowOf t p) (e : at ≡ row_at p) 
       ∙ num1 t (at + 8 + i))
 
   -- as many bytes as the size says, or all 64
-  pub name_short : (n : ℕ) → n ≡ view t (size p) → n ≤ 64 → take (at + 8 + n - (at + 8)) (drop (at + 8) t) ≡ name_of (view t) p
+  name_short : (n : ℕ) → n ≡ view t (size p) → n ≤ 64 → take (at + 8 + n - (at + 8)) (drop (at + 8) t) ≡ name_of (view t) p
   unfolding name_of
   name_short n s h =
       let k : at + 8 + n - (at + 8) ≡ n = omega arith in
       rw (k, letters, ← s) (sym (take-take n 64 (drop (at + 8) t) h))
 
-  pub name_long : (n : ℕ) → n ≡ view t (size p) → 64 < n → take (at + 8 + 64 - (at + 8)) (drop (at + 8) t) ≡ name_of (view t) p
+  name_long : (n : ℕ) → n ≡ view t (size p) → 64 < n → take (at + 8 + 64 - (at + 8)) (drop (at + 8) t) ≡ name_of (view t) p
   unfolding name_of
   name_long n s h =
       let k : at + 8 + 64 - (at + 8) ≡ 64 = omega arith in
       let l : length (take 64 (drop (at + 8) t)) ≤ n = rw length-take (omega arith) in
       rw (k, letters, ← s) (sym (take_all n (take 64 (drop (at + 8) t)) l))
+
+  pub name_is : (n m : ℕ) → n ≡ view t (size p) → m ≡ min n 64 → take (at + 8 + m - (at + 8)) (drop (at + 8) t) ≡ name_of (view t) p
+  name_is n m s e =
+      cases (leb n 64)
+      (λ q. let h = leb-true n 64 q in let k : m ≡ n = omega arith in rw k (name_short n s h))
+      (λ q. let h = leb-false n 64 q in let k : m ≡ 64 = omega arith in rw k (name_long n s h))
 
 -- ---- a name written byte by byte
 

@@ -90,9 +90,6 @@ pub fn name<'t>(t: &'t [u8], p: usize) -> &'t [u8]
     ensures { result.now ≡ name_of (view t.now) p }
 {
     let from = row_at(p) + ROW_HEAD;
-    let n = size(t, p);
-    if ROOM < n {
-        return &t[from..from + ROOM];
-    }
+    let n = size(t, p).min(ROOM);
     &t[from..from + n]
 }
