@@ -18,9 +18,7 @@ pub(crate) fn public_of(h: &[u8], b: &[u8]) -> Option<usize>
     let mut at = t.names_at;
     let mut best = None;
     for _ in 0..t.names {
-        let Some(n) = name_at(b, at, b.len()) else {
-            break;
-        };
+        let n = name_at(b, at, b.len()).unwrap();
         if best < Some(n.len()) && is_under(h, n) {
             best = Some(n.len());
         }
