@@ -1,4 +1,7 @@
 // One call of the kernel, with a look at the memory that it was lent.
+ghost use Rattle.std.specs.Prelude.{◌≡◌, ◌≤◌, ◌==◌, ◌&&◌, ◌||◌};
+ghost use Rattle.rules.specs.Sheet.{number_in};
+
 use crate::frame::Event;
 use crate::shape::Call;
 use frames::answer::{bytes_in, number_in};
@@ -34,12 +37,17 @@ pub struct Outcome {
 }
 
 impl Outcome {
-    pub fn is_served(&self) -> bool {
+    pub fn is_served(&self) -> bool
+        ensures { result ≡ (number_in self.now.answer == 0) }
+    {
         number_in(self.answer) == 0
     }
 
     // No byte changed that must stay.
-    pub fn is_kept(&self) -> bool {
+    pub fn is_kept(&self) -> bool
+        ensures { result ≡ self.now.stayed
+            && (number_in self.now.answer == 0 || self.now.changed == 0) }
+    {
         self.stayed && (self.is_served() || self.changed == 0)
     }
 }
@@ -79,7 +87,10 @@ impl Memory {
     }
 
     // The call that a line asks for.
-    pub fn call(&mut self, l: &[u8], call: Call) -> Outcome {
+    pub fn call(&mut self, l: &[u8], call: Call) -> Outcome
+        ensures lent { self.new.lent ≡ self.old.lent }
+        ensures book { self.new.book ≡ self.old.book }
+    {
         let old = self.table;
         self.room = [FILL; 4200];
         let lent = self.lent;
@@ -111,7 +122,9 @@ impl Memory {
     }
 
     // So many rounds; how many of them were not well served.
-    pub fn rounds(&mut self, l: &[u8], n: usize) -> usize {
+    pub fn rounds(&mut self, l: &[u8], n: usize) -> usize
+        ensures { result ≤ n }
+    {
         (0..n).filter(|_| !self.round(l)).count()
     }
 }

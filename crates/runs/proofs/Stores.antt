@@ -1,6 +1,8 @@
 -- Laws of stores one after the other, `sets` of the toolchain's library. Assumes nothing.
-use Rattle.std.proofs.Common.{◌≡◌, ℕ, suc, ◌+◌, ◌-◌, ◌<◌, ◌≤◌, min, List, [], ◌∷◌, ◌++◌, length, take, drop, refl, sym, ap, ◌∙◌, arith, length-take, length-drop, append_assoc, take-append-drop, drop-drop}
+use Rattle.std.proofs.Common.{◌≡◌, ℕ, suc, ◌+◌, ◌-◌, ◌<◌, ◌≤◌, min, List, [], ◌∷◌, ◌++◌, length, take, drop, refl, sym, ap, ◌∙◌, arith, length-take, length-drop, replicate, append_assoc, take-append-drop, drop-drop}
+use Rattle.std.proofs.lemmas.List.{take-replicate, length-replicate}
 use Rattle.std.proofs.lemmas.List.Edits.{sets, sets-eq}
+use borrow.Rule.Slice.PartMut.{put_mid}
 use Rattle.std.proofs.Math.ListN.{set}
 use Rattle.std.proofs.Math.Seq.{set_out, length-sets}
 
@@ -29,3 +31,11 @@ sets_room l i n vs h e =
     ∙ left
     ∙ sets-eq (take n vs) l i (omega arith)
     ∙ rw (k, drop-drop n i l) (append_assoc (take i l) (take n vs) (drop (i + n) l))
+
+-- a letter so many times, as often as there is room for
+pub sets_filled : (l : List ℕ) (i n times x : ℕ) (part : List ℕ) → i ≤ length l → n ≡ min (length (replicate times x)) (length l - i) → part ≡ replicate (length (take (i + n - i) (drop i l))) x → put_mid i (i + n - i) l part ≡ sets l i (replicate times x)
+sets_filled l i n times x part h e p =
+    let k : i + n - i ≡ n = omega arith in
+    let m : length (take (i + n - i) (drop i l)) ≡ n = length-take (i + n - i) (drop i l) ∙ omega (arith, length-drop i l) in
+    let t : n ≤ times = omega (arith, length-replicate times x) in
+    rw (p, m, k, sets_room l i n (replicate times x) h e, take-replicate n times x t)

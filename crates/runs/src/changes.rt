@@ -1,8 +1,10 @@
 // What an update changed: the table before it beside the table after it.
-ghost use Rattle.std.specs.Prelude.{◌≤◌, length};
+ghost use Rattle.std.specs.Prelude.{◌≡◌, ◌≤◌, length, slice_index};
 
 // The byte at a place; 0 past the end.
-pub fn byte_at(s: &[u8], i: usize) -> u8 {
+pub fn byte_at(s: &[u8], i: usize) -> u8
+    ensures { result ≡ slice_index s.now i }
+{
     s.get(i).copied().unwrap_or(0)
 }
 

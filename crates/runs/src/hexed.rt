@@ -1,5 +1,5 @@
 // Bytes as lower-case hex, read and written.
-ghost use Rattle.std.specs.Prelude.{◌<◌, IfSome};
+ghost use Rattle.std.specs.Prelude.{◌≡◌, ◌<◌, ◌/◌, length, IfSome};
 ghost use Rattle.reader.specs.Front.{IsPrefixLen};
 
 use std::fmt;
@@ -26,7 +26,7 @@ fn byte_of(high: u8, low: u8) -> Option<u8> {
 
 // How many bytes a word has put at the start of `to`, if it is hex and has room there.
 pub fn bytes_of(to: &mut [u8], w: &[u8]) -> Option<usize>
-    ensures { IfSome result (λ n. IsPrefixLen n to.new) }
+    ensures { IfSome result (λ n. (n ≡ length w.now / 2) × IsPrefixLen n to.new) }
 {
     let n = w.len() / 2;
     if to.len() < n {

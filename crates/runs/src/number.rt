@@ -1,5 +1,6 @@
 // Words as decimal numbers.
-ghost use Rattle.std.specs.Prelude.{◌≡◌};
+ghost use Rattle.std.specs.Prelude.{◌≡◌, unwrap_or};
+ghost use Rattle.runs.specs.Words.{word};
 ghost use Rattle.runs.specs.Decimal.{with_digit, decimal};
 
 use crate::parts::word;
@@ -29,6 +30,8 @@ pub fn number_of(w: &[u8]) -> Option<usize>
 }
 
 // The number that word k of a line is, or 0.
-pub fn number_at(l: &[u8], k: usize) -> usize {
+pub fn number_at(l: &[u8], k: usize) -> usize
+    ensures { result ≡ unwrap_or (decimal (word l.now k)) 0 }
+{
     number_of(word(l, k)).unwrap_or(0)
 }

@@ -1,5 +1,8 @@
 // Bytes as a script writes them, in words.
-ghost use Rattle.std.specs.Prelude.{◌≤◌, length};
+ghost use Rattle.std.specs.Prelude.{◌≡◌, ◌+◌, ◌<◌, ◌≤◌, min, length, IfSome, IsSome};
+ghost use Rattle.std.proofs.lemmas.List.Edits.{sets};
+ghost use Rattle.runs.specs.Decimal.{decimal};
+ghost use Rattle.runs.specs.Pieces.{bytes_of, Says};
 
 use crate::number::number_of;
 use crate::parts::part;
@@ -22,12 +25,16 @@ pub enum Piece<'w> {
 
 impl<'w> Piece<'w> {
     // A word that stands for no byte is no piece.
-    pub fn of(w: &'w [u8]) -> Option<Piece<'w>> {
-        if let [b'"', text @ .., b'"'] = w {
-            return (!text.is_empty()).then_some(Piece::Text(text));
-        }
+    pub fn of(w: &'w [u8]) -> Option<Piece<'w>>
+        ensures said { IfSome result (Says w.now) }
+        ensures number { IsSome (decimal w.now) → IsSome result }
+        ensures some { IfSome result (λ piece. 0 < length (bytes_of piece)) }
+    {
         if let Some(n) = number_of(w) {
             return Some(Piece::Byte((n % 256) as u8));
+        }
+        if let [b'"', text @ .., b'"'] = w {
+            return (!text.is_empty()).then_some(Piece::Text(text));
         }
         if let [letter] = part(w, b'*', 1) {
             let times = number_of(part(w, b'*', 0))?;
@@ -45,7 +52,9 @@ impl<'w> Piece<'w> {
     }
 
     // How many bytes it has.
-    fn len(&self) -> usize {
+    fn len(&self) -> usize
+        ensures { result ≡ length (bytes_of self.now) }
+    {
         match self {
             Piece::Text(text) => text.len(),
             Piece::Byte(_) => 1,
@@ -58,7 +67,8 @@ impl<'w> Piece<'w> {
     // Writes them from a place on, as many as there is room for, and gives the place after them.
     fn put(&self, to: &mut [u8], at: usize) -> usize
         requires { at ≤ length to.old }
-        ensures { (at ≤ result) × (result ≤ length to.new) }
+        ensures written { to.new ≡ sets to.old at (bytes_of self.now) }
+        ensures end { result ≡ min (at + length (bytes_of self.now)) (length to.old) }
     {
         let n = self.len().min(to.len() - at);
         match self {

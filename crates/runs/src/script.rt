@@ -1,26 +1,12 @@
 // A script on standard input, obeyed line by line.
-ghost use Rattle.std.specs.Prelude.{length};
+ghost use Rattle.std.specs.Prelude.{◌≡◌, ℕ, ◌<◌, IfSome, length};
+ghost use Rattle.std.specs.List.{HoldsAt};
+ghost use Rattle.runs.specs.Words.{word};
 ghost use Rattle.std.specs.Iterator.{at_most};
-ghost use Rattle.reader.specs.Front.{IsPrefixLen};
 
 use crate::say;
 use crate::shape::{Shape, command_of};
-use std::io::Read;
-
-// Reads on until the room is full, the input ends, or a read fails; and how many bytes there are then.
-fn fill(input: &mut impl Read, to: &mut [u8]) -> usize
-    ensures { IsPrefixLen result to.new }
-{
-    let mut have = 0;
-    while have < to.len() {
-        let n = input.read(&mut to[have..]).unwrap_or(0);
-        if n == 0 {
-            return have;
-        }
-        have += n;
-    }
-    have
-}
+use reader::front::read_all;
 
 // The lines of a script, each without the byte that ends it. Bytes that no such byte ends are no line.
 #[derive(Drop)]
@@ -45,11 +31,11 @@ pub fn run<F: FnMut(&[u8])>(rt: &(impl Input + Print), mut obey: F)
 {
     let mut input = rt.reader();
     let mut script = [0; 65536];
-    let n = fill(&mut input, &mut script);
+    let n = read_all(&mut input, &mut script).unwrap_or_else(|broken| broken.have);
     for line in Lines(&script[..n]) {
         obey(line);
     }
-    if fill(&mut input, &mut [0]) != 0 {
+    if matches!(read_all(&mut input, &mut [0]), Ok(1)) {
         say::bad(rt, b"script too long");
     }
 }
@@ -60,7 +46,10 @@ pub fn is_heading(l: &[u8]) -> bool {
 }
 
 // The command that a line is, of those that have these shapes. If it is none, it is a heading, or bad, and said.
-pub fn command_in<C: Copy>(rt: &impl Print, l: &[u8], shapes: &[Shape<C>]) -> Option<C> {
+pub fn command_in<C: Copy>(rt: &impl Print, l: &[u8], shapes: &[Shape<C>]) -> Option<C>
+    ensures { IfSome result (λ command. (k : ℕ) × (k < length shapes.now)
+        × HoldsAt (λ s. (s.0.now ≡ word l.now 0) × (s.2 ≡ command)) shapes.now k) }
+{
     if is_heading(l) {
         say::line(rt, l);
         return None;

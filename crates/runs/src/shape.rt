@@ -1,6 +1,11 @@
 // Commands by their shapes: a word, and a kind for each word after it.
+ghost use Rattle.std.specs.Prelude.{◌≡◌, ℕ, ◌<◌, IsTrue, IfSome, length};
+ghost use Rattle.std.specs.List.{HoldsAt};
+ghost use Rattle.runs.specs.Words.{word};
+
 use crate::hexed::is_hex;
 use crate::number::number_of;
+use crate::parts::word;
 use crate::pieces::Piece;
 
 // What a word of a line has to be.
@@ -33,12 +38,9 @@ impl Kind {
     }
 }
 
-// The line has this first word, and its other words are of these kinds.
-fn is(l: &[u8], first: &str, kinds: &[Kind]) -> bool {
-    let mut words = l.split(|b| *b == b' ');
-    if words.next() != Some(first.as_bytes()) {
-        return false;
-    }
+// The words after a line's first are of these kinds.
+fn are_fit(l: &[u8], kinds: &[Kind]) -> bool {
+    let mut words = l.split(|b| *b == b' ').skip(1);
     for kind in kinds {
         if let Kind::Pieces = kind {
             return words.all(|w| kind.fits(w));
@@ -50,8 +52,18 @@ fn is(l: &[u8], first: &str, kinds: &[Kind]) -> bool {
     words.next().is_none()
 }
 
+// The line has this first word, and after it words of these kinds.
+fn is(l: &[u8], first: &str, kinds: &[Kind]) -> bool
+    ensures { IsTrue result → word l.now 0 ≡ first.now }
+{
+    word(l, 0) == first.as_bytes() && are_fit(l, kinds)
+}
+
 // The command that a line is, of those that have these shapes.
-pub fn command_of<C: Copy>(l: &[u8], shapes: &[Shape<C>]) -> Option<C> {
+pub fn command_of<C: Copy>(l: &[u8], shapes: &[Shape<C>]) -> Option<C>
+    ensures { IfSome result (λ command. (k : ℕ) × (k < length shapes.now)
+        × HoldsAt (λ s. (s.0.now ≡ word l.now 0) × (s.2 ≡ command)) shapes.now k) }
+{
     let (_, _, command) = shapes.iter().find(|(first, kinds, _)| is(l, first, kinds))?;
     Some(*command)
 }

@@ -42,9 +42,8 @@ fn with(rt: &impl Print, t: &[u8], l: &[u8], owner: usize)
     }
 }
 
-fn answer(rt: &impl Print, t: &[u8], l: &[u8], question: Question)
-    requires { length t.now ≡ table_bytes }
-{
+#[tactic(auto, using(fields::specs::Steps::Layout::table_bytes_lem))]
+pub fn ask(rt: &impl Print, t: &[u8; 6152], l: &[u8], question: Question) {
     let label = word(l, 0);
     let n = number_at(l, 1);
     match question {
@@ -59,11 +58,5 @@ fn answer(rt: &impl Print, t: &[u8], l: &[u8], question: Question)
         Question::Count => seat::count(rt, t, n, label),
         Question::Owner => seat::owner(rt, t, n, label),
         Question::Name => seat::name(rt, t, n, label),
-    }
-}
-
-pub fn ask(rt: &impl Print, t: &[u8], l: &[u8], question: Question) {
-    if fields::layout::is_long(t) {
-        answer(rt, t, l, question);
     }
 }
