@@ -1,6 +1,6 @@
 // What is said to whoever asks for --help: the program's use, in a screenful.
 
-pub const HELP: &str = "asksuffix: the suffix of each host under an order book, line by line
+pub const HELP: &[u8] = b"asksuffix: the suffix of each host under an order book, line by line
 
 use: asksuffix < HOSTS > ANSWERS
      asksuffix --version

@@ -13,7 +13,7 @@ use reader::book::{read_book, say_unsound};
 use reader::room::zeros;
 
 fn main(rt: HostRuntime) {
-    let who = "asksuffix";
+    let who = b"asksuffix";
     if answered(&rt, who, help::HELP) {
         return;
     }

@@ -15,7 +15,7 @@ pub fn run(
     buf: &mut [u8],
     book: &[u8],
     out: &mut [u8],
-    who: &str,
+    who: &[u8],
 )
     requires { AskBuffers buf.old out.old }
     ensures { AskRan book.now buf.old out.old buf.new out.new }

@@ -41,7 +41,7 @@ pub fn turn(
     book: &[u8],
     out: &mut [u8],
     p: Place,
-    who: &str,
+    who: &[u8],
 ) -> Place
     requires { Sound p (length buf.old) × (AskBuffers buf.old out.old × Countable p) }
     ensures { Turn buf.old book.now out.old p buf.new out.new result }

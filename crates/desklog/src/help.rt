@@ -1,6 +1,6 @@
 // What is said to whoever asks for --help: the program's use, in a screenful.
 
-pub const HELP: &str = "desklog: what the kernel makes of a recording, line by line
+pub const HELP: &[u8] = b"desklog: what the kernel makes of a recording, line by line
 
 use: desklog < EVENTS > LOG
      desklog --version

@@ -9,7 +9,7 @@ use reader::book::read_book;
 use reader::room::zeros;
 
 fn main(rt: HostRuntime) {
-    let who = "desklog";
+    let who = b"desklog";
     if answered(&rt, who, help::HELP) {
         return;
     }

@@ -37,7 +37,7 @@ fn run(
     table: &mut [u8],
     book: &[u8],
     out: &mut [u8],
-    who: &str,
+    who: &[u8],
 )
     requires { LogBuffers buf.old out.old }
     ensures { LogRan book.now buf.old table.old out.old buf.new table.new out.new }
@@ -58,7 +58,7 @@ pub fn log(
     table: &mut [u8],
     book: &[u8],
     out: &mut [u8],
-    who: &str,
+    who: &[u8],
 )
     requires { LogBuffers buf.old out.old }
     ensures { Logged book.now buf.old table.old out.old buf.new table.new out.new }
@@ -67,7 +67,7 @@ pub fn log(
         None => run(rt, buf, table, book, out, who),
         Some(said) => {
             let _ = put_out(rt, &out[..said], who);
-            say_unsound(rt, book, "desklog: the start is refused");
+            say_unsound(rt, book, b"desklog: the start is refused");
         }
     }
 }

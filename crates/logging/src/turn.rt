@@ -28,7 +28,7 @@ pub fn turn(
     book: &[u8],
     out: &mut [u8],
     p: Place,
-    who: &str,
+    who: &[u8],
 ) -> Place
     requires { Sound p (length buf.old) × Ample p buf.old out.old }
     ensures { Turn buf.old table.old book.now out.old p buf.new table.new out.new result }

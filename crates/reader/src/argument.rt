@@ -12,7 +12,7 @@ fn is_argument(rt: &impl Env, place: usize) -> bool {
 }
 
 // Whether there was an argument, which is all that is answered then; `help` explains the program's use.
-pub fn answered(rt: &(impl Print + Eprint + Env), who: &str, help: &str) -> bool {
+pub fn answered(rt: &(impl Print + Eprint + Env), who: &[u8], help: &[u8]) -> bool {
     if !is_argument(rt, 1) {
         return false;
     }
@@ -20,13 +20,13 @@ pub fn answered(rt: &(impl Print + Eprint + Env), who: &str, help: &str) -> bool
     let mut word = [0u8; 16];
     let n = rt.arg(1, &mut word).unwrap_or(0);
     let _ = match &word[..n] {
-        b"--help" if alone => put_out(rt, help.as_bytes(), who),
+        b"--help" if alone => put_out(rt, help, who),
         b"--version" if alone => put_version(rt, who),
         _ => {
             say(
                 rt,
                 who,
-                "takes one argument at most: --help explains its use, --version tells its version",
+                b"takes one argument at most: --help explains its use, --version tells its version",
             );
             Ok(())
         }

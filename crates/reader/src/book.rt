@@ -7,29 +7,29 @@ use std::fs;
 use std::rt::Files;
 
 // How many bytes of the book are at the front of the room. A book that cannot be opened or read is told, and counts as empty.
-pub fn read_book(rt: &(impl Files + Eprint), to: &mut [u8], who: &str) -> usize
+pub fn read_book(rt: &(impl Files + Eprint), to: &mut [u8], who: &[u8]) -> usize
     ensures { IsPrefixLen result to.new }
 {
     let opened = fs::open(rt, "book.bin").inspect_err(|why| say_failed(
         rt,
         who,
-        "book.bin cannot be opened",
+        b"book.bin cannot be opened",
         why,
     ));
     let Ok(mut book) = opened else {
         return 0;
     };
     read_all(&mut book, to)
-        .inspect_err(|broken| say_failed(rt, who, "book.bin cannot be read", &broken.why))
+        .inspect_err(|broken| say_failed(rt, who, b"book.bin cannot be read", &broken.why))
         .unwrap_or(0)
 }
 
 // Why this book is unsound, in words.
-pub fn say_unsound(rt: &impl Eprint, book: &[u8], who: &str) {
-    let what = match book.len() {
-        0 => "an empty order book is unsound",
-        1..=32768 => "book.bin is not a sound order book",
-        _ => "book.bin has more than 32,768 bytes",
+pub fn say_unsound(rt: &impl Eprint, book: &[u8], who: &[u8]) {
+    let what: &[u8] = match book.len() {
+        0 => b"an empty order book is unsound",
+        1..=32768 => b"book.bin is not a sound order book",
+        _ => b"book.bin has more than 32,768 bytes",
     };
     say(rt, who, what);
 }

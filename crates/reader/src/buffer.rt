@@ -14,12 +14,12 @@ pub fn shift(buf: &mut [u8], place: usize, have: usize)
 
 // Reads once behind the first bytes, and gives how many came: none at the end of the stream, or where the read fails, which
 // standard error is told.
-pub fn fill(rt: &(impl Input + Eprint), buf: &mut [u8], have: usize, who: &str) -> usize
+pub fn fill(rt: &(impl Input + Eprint), buf: &mut [u8], have: usize, who: &[u8]) -> usize
     requires { have ≤ length buf.old }
     ensures { (have + result ≤ length buf.old) × (take have buf.new ≡ take have buf.old) }
 {
     rt.reader()
         .read(&mut buf[have..])
-        .inspect_err(|why| say_failed(rt, who, "standard input cannot be read", why))
+        .inspect_err(|why| say_failed(rt, who, b"standard input cannot be read", why))
         .unwrap_or(0)
 }

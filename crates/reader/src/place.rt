@@ -31,7 +31,7 @@ impl Place {
 }
 
 // Reads once behind what is unread. A read that fails counts as the end of the stream, and is told.
-pub fn refill(rt: &(impl Input + Eprint), buf: &mut [u8], p: Place, who: &str) -> Place
+pub fn refill(rt: &(impl Input + Eprint), buf: &mut [u8], p: Place, who: &[u8]) -> Place
     requires { Sound p (length buf.old) }
     ensures { Filled buf.old p buf.new result }
 {

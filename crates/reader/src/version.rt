@@ -3,7 +3,7 @@ use crate::out::put_out;
 use std::io;
 
 // A line on standard output, with the program's name.
-pub fn put_version(rt: &(impl Print + Eprint), who: &str) -> io::Result<()> {
-    put_out(rt, who.as_bytes(), who)?;
+pub fn put_version(rt: &(impl Print + Eprint), who: &[u8]) -> io::Result<()> {
+    put_out(rt, who, who)?;
     put_out(rt, b" 0.7.0\n", who)
 }

@@ -22,7 +22,7 @@ returns g c =
     let given = c.give_ready-given in
     let some : given.result.ready.count ≡ 0 → given.result.ready.last ≡ true =
     elim c.else-given-eq0.branch [
-      else-given-eq0-via-then-given-eq0+else-not-given w ↦ λ _. not-false _ w.if-not-given.false
+      | else-given-eq0-via-then-given-eq0+else-not-given w ↦ λ _. not-false _ w.if-not-given.false
       | else-given-eq0-via-else-given-eq0 w ↦ λ e. absurd (w.if-given-eq0.false e)
     ] in
     turn_gave c.args.buf.now c.args.p c.held.ensures given.ensures pre.0 pre.1.roomy some c.moved.ensures
