@@ -44,7 +44,9 @@ fn first_action<'s>(s: &'s [u8]) -> Option<(Action<'s>, &'s [u8])>
 }
 
 // So many frames, and how many bytes they have; bytes that hold no whole frame are all taken for one.
-fn say_actions(rt: &impl Print, s: &[u8], count: usize) -> usize {
+fn say_actions(rt: &impl Print, s: &[u8], count: usize) -> usize
+    ensures { result ≤ length s.now }
+{
     let mut rest = s;
     for _ in 0..count {
         rest = match first_action(rest) {
