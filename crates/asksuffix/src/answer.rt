@@ -12,7 +12,7 @@ fn told<'h>(host: &'h [u8], book: &[u8]) -> (u8, &'h [u8])
     ensures says { result.0 ≡ (suffix_of host.now book.now).why }
     ensures gives { result.1.now ≡ (suffix_of host.now book.now).part }
 {
-    match names::suffix(host, book) {
+    match names::ask(host, book) {
         Ok(part) => (0, part),
         Err(why) => (u8::from(why), b""),
     }

@@ -29,7 +29,7 @@ impl fmt::Display for Action<'_> {
 }
 
 // The first frame of some bytes, and the bytes after it.
-fn first_action<'s>(s: &'s [u8]) -> Option<(Action<'s>, &'s [u8])>
+fn first_action(s: &[u8]) -> Option<(Action<'_>, &[u8])>
     ensures { IfSome result (λ p. length p.1.now ≤ length s.now) }
 {
     let (head, rest) = s.split_at_checked(10)?;
@@ -44,7 +44,7 @@ fn first_action<'s>(s: &'s [u8]) -> Option<(Action<'s>, &'s [u8])>
 }
 
 // So many frames, and how many bytes they have; bytes that hold no whole frame are all taken for one.
-fn say_actions(rt: &impl Print, s: &[u8], count: usize) -> usize
+fn say_actions(rt: &impl Print, s: &[u8], count: u64) -> usize
     ensures { result ≤ length s.now }
 {
     let mut rest = s;
@@ -86,7 +86,7 @@ pub fn say_step(rt: &impl Print, n: usize, o: Outcome, room: &[u8]) {
     let number = number_in(o.answer);
     let actions = actions_in(o.answer);
     let _ = println!(rt; "E {n} {number} {actions}");
-    if say_actions(rt, room, actions as usize) != bytes_in(o.answer) {
+    if say_actions(rt, room, actions) != bytes_in(o.answer) {
         say::bad(rt, b"other bytes than the actions have");
     }
     say_memory(rt, o);

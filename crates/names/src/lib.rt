@@ -31,7 +31,7 @@ impl From<NoSuffix> for u8 {
 }
 
 // The suffix of a host under a book: a part of the host, case kept.
-pub fn suffix<'h>(host: &'h [u8], book: &[u8]) -> Result<&'h [u8], NoSuffix>
+pub fn ask<'h>(host: &'h [u8], book: &[u8]) -> Result<&'h [u8], NoSuffix>
     ensures given { IfOk result (λ part. Answered (suffix_of host.now book.now) host.entry.ref_ptr part.ref_ptr part.now 0) }
     ensures refused { IfErr result (λ why. Answered (suffix_of host.now book.now) host.entry.ref_ptr host.entry.ref_ptr [] (number_of why)) }
 {
@@ -47,4 +47,22 @@ pub fn suffix<'h>(host: &'h [u8], book: &[u8]) -> Result<&'h [u8], NoSuffix>
         return Err(NoSuffix::Unfit);
     }
     Ok(&host[host.len() - taken..])
+}
+
+// The same as the document has it: a part of the host, and 0 in `why`; or 6 (the book is unsound) or 7 in `why`, and an empty
+// part.
+pub fn suffix<'h>(host: &'h [u8], book: &[u8], why: &mut u8) -> &'h [u8]
+    ensures { Answered (suffix_of host.now book.now)
+        host.entry.ref_ptr result.ref_ptr result.now why.new }
+{
+    match ask(host, book) {
+        Ok(part) => {
+            *why = 0;
+            part
+        }
+        Err(no) => {
+            *why = u8::from(no);
+            &host[..0]
+        }
+    }
 }

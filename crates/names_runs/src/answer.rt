@@ -2,6 +2,7 @@
 use crate::seat;
 use crate::shape::Question;
 use runs::changes::byte_at;
+use runs::number::number_at;
 use runs::say;
 use terms::fold::{fold, is_folded};
 
@@ -19,18 +20,23 @@ fn into(rt: &impl Print, to: &mut [u8], name: &[u8], label: &[u8]) {
     say::line(rt, to);
 }
 
-// The number and the part of the host, or a hyphen where there is none.
-fn suffix(rt: &impl Print, host: &[u8], book: &[u8], label: &[u8]) {
-    let (number, part) = match names::suffix(host, book) {
-        Ok(part) => (0, part),
-        Err(why) => (u8::from(why), &b"-"[..]),
-    };
+// The number given back and the part of the host, or a hyphen for an empty one. The number lent holds `held` before.
+fn suffix(rt: &impl Print, host: &[u8], book: &[u8], held: usize, label: &[u8]) {
+    let mut why = (held % 256) as u8;
+    let part = names::suffix(host, book, &mut why);
     say::text(rt, label);
-    let _ = print!(rt; " {number} ");
-    say::line(rt, part);
+    let _ = print!(rt; " {why} ");
+    say::line(rt, if part.is_empty() { b"-" } else { part });
 }
 
-pub fn answer(rt: &impl Print, beside: &mut [u8], text: &[u8], question: Question, label: &[u8]) {
+pub fn answer(
+    rt: &impl Print,
+    beside: &mut [u8],
+    text: &[u8],
+    q: &[u8],
+    question: Question,
+    label: &[u8],
+) {
     let first = byte_at(text, 0);
     match question {
         Question::Name => say::test(rt, label, terms::name::is_name(text)),
@@ -44,7 +50,7 @@ pub fn answer(rt: &impl Print, beside: &mut [u8], text: &[u8], question: Questio
             say::text(rt, label);
             seat::say_owner(rt, first, byte_at(text, 1), byte_at(text, 2));
         }
-        Question::Suffix => suffix(rt, text, beside, label),
+        Question::Suffix => suffix(rt, text, beside, number_at(q, 1), label),
         Question::Sound => say::test(rt, label, names::book::is_sound(beside)),
     }
 }

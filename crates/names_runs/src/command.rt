@@ -17,7 +17,7 @@ fn ask(rt: &impl Print, beside: &mut [u8], q: &[u8], question: Question, label: 
     };
     let mut room = [0u8; 4096];
     let len = put_words(&mut room, 0, q, first);
-    answer(rt, beside, &room[..len], question, label);
+    answer(rt, beside, &room[..len], q, question, label);
 }
 
 // A line of the script, and how many bytes stand beside the questions after it.

@@ -20,11 +20,13 @@ pub fn is_hex(w: &[u8]) -> bool {
     w.len() % 2 == 0 && !w.is_empty() && w.iter().all(|digit| value_of(*digit).is_some())
 }
 
-fn byte_of(high: u8, low: u8) -> Option<u8> {
-    Some(16 * value_of(high)? + value_of(low)?)
+// A digit that is none stands for 16.
+fn byte_of(high: u8, low: u8) -> u8 {
+    let value = |digit| u16::from(value_of(digit).unwrap_or(16));
+    ((16 * value(high) + value(low)) % 256) as u8
 }
 
-// How many bytes a word has put at the start of `to`, if it is hex and has room there.
+// How many bytes a word has put at the start of `to`, if it has room there.
 pub fn bytes_of(to: &mut [u8], w: &[u8]) -> Option<usize>
     ensures { IfSome result (λ n. (n ≡ length w.now / 2) × IsPrefixLen n to.new) }
 {
@@ -32,8 +34,8 @@ pub fn bytes_of(to: &mut [u8], w: &[u8]) -> Option<usize>
     if to.len() < n {
         return None;
     }
-    for i in 0..n {
-        to[i] = byte_of(w[2 * i], w[2 * i + 1])?;
+    for (x, pair) in to.iter_mut().zip(w.chunks_exact(2)) {
+        *x = byte_of(pair[0], pair[1]);
     }
     Some(n)
 }

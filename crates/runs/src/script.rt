@@ -42,7 +42,7 @@ pub fn run<F: FnMut(&[u8])>(rt: &(impl Input + Print), mut obey: F)
 
 // A heading or an empty line.
 pub fn is_heading(l: &[u8]) -> bool {
-    l.is_empty() || l[0] == b'#'
+    matches!(l, [] | [b'#', ..])
 }
 
 // The command that a line is, of those that have these shapes. If it is none, it is a heading, or bad, and said.

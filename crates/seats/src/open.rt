@@ -20,7 +20,7 @@ use table::slots::live_tabs;
 fn check_suffix(book: &[u8], x: &[u8]) -> Result<(), Refusal>
     ensures { number_given result ≡ book_number book.now x.now }
 {
-    match names::suffix(x, book) {
+    match names::ask(x, book) {
         Ok(own) if own.len() == x.len() => Ok(()),
         Ok(_) => Err(Refusal::BadSuffix),
         Err(NoSuffix::UnsoundBook) => Err(Refusal::BadBook),

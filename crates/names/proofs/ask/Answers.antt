@@ -7,7 +7,7 @@ use Rattle.terms.specs.Steps.Suffix.{refused_unsound, refused_malformed, refused
 use Rattle.names.specs.Number.{number_of}
 use Rattle.names.specs.declared.NoSuffix.{NoSuffix}
 use Rattle.names.specs.declared.NoSuffix.TheVariants.{Unfit}
-use Rattle.names.proofs.suffix.Goals as goal
+use Rattle.names.proofs.ask.Goals as goal
 
 -- what a `?` hands on of an error that says that nothing fits
 unfit : {T : Type 0} (P : ℕ → Type 0) (r : Result T NoSuffix) (e : NoSuffix) → IsErr r × IsErrAnd r (λ x. x ≡ e) → e ≡ Unfit → P 7
