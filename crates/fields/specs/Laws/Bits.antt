@@ -176,6 +176,11 @@ bits_next f {k} l e d =
     let o : k ≡ suc (k - 1) = omega arith in
     rw (p, e, d ∙ ap (λ (x : ℕ). one (f x)) o)
 
+-- the same with k bits, and w the weight of the next
+pub bits_pass : (f : ℕ → Bool) (k m w r : ℕ) → m ≡ bits k f → w ≡ 2 ^ k → r ≡ one (f (k + 1)) → m + r * w ≡ bits (k + 1) f
+unfolding bits
+bits_pass f k m w r a b d = rw add-one (rw (a, b, d ∙ ap (λ (x : ℕ). one (f x)) (add-one k)))
+
 -- a slot that passes has its bit in the map
 pub bits_part : (n : ℕ) (f : ℕ → Bool) (k : ℕ) → Range 1 n k → f k ≡ true → 2 ^ (k - 1) ≤ bits n f
 unfolding one

@@ -1,4 +1,5 @@
--- Laws of `each` and `no_two`: to all of 1 to n and back, and a loop that leaves nowhere. Assumes nothing.
+-- Laws of `each` and `no_two`: to all of 1 to n and back, a loop's three places, and a loop from n on that leaves nowhere.
+-- Assumes nothing.
 use Rattle.std.specs.Prelude.{◌≡◌, refl, Bool, false, not, ◌&&◌, ◌||◌, ◌≢◌, ◌⊎◌, ℕ, zero, suc, ◌+◌, ◌-◌, ◌≤◌, ◌<◌, eqb, leb}
 use Rattle.std.proofs.Math.Path.{sym, ap}
 use Rattle.std.proofs.Common.{ap₂, ◌∙◌, subst, le-leb, inl, inr, ⊎_elim, eqb-true, leb-true, leb-false, eq-or-lt_of_le, le_antisymm, arith}
@@ -71,6 +72,54 @@ unfolding each
 each_ext zero f g h = refl
 each_ext (suc n) f g h =
     ap₂ ◌&&◌ (each_ext n f g (λ k r. h k (let a = r.high in range r.low (omega arith)))) (h (suc n) (range (omega arith) (omega arith)))
+
+-- a loop that counts up to n and leaves at the first that fails: it asks for k + 1 after k have passed
+pub record Passed (n : ℕ) (f : ℕ → Bool) (k : ℕ) : Type 0 where
+  pub most : k ≤ n
+  pub all : each k f ≡ true
+
+pub passed_start : (n : ℕ) (f : ℕ → Bool) → Passed n f 0
+passed_start n f = record { most = omega arith; all = each_none f }
+
+module _ {n : ℕ} {f : ℕ → Bool} {k : ℕ} (w : Passed n f k) where
+  pub passed_on : {r : Bool} → k < n → r ≡ f (k + 1) → r ≡ true → Passed n f (k + 1)
+  unfolding each
+  passed_on l q h =
+      let next : f (suc k) ≡ true = ap f (sym (add-one k)) ∙ sym q ∙ h in
+      record { most = omega arith; all = rw add-one (and_both (each k f) (f (suc k)) w.all next) }
+
+  pub passed_fail : {r : Bool} → k < n → r ≡ f (k + 1) → r ≡ false → false ≡ each n f
+  passed_fail l q h = sym (each_not n f (k + 1) (range (omega arith) (omega arith)) (sym q ∙ h))
+
+  pub passed_done : n ≤ k → true ≡ each n f
+  passed_done m = sym (subst (λ (x : ℕ). each x f ≡ true) (le_antisymm w.most m) w.all)
+
+  -- what has passed is all below the one that is asked for
+  pub passed_below : each (k + 1 - 1) f ≡ true
+  passed_below = let a : k + 1 - 1 ≡ k = omega arith in rw a w.all
+
+-- a loop that counts up and leaves nowhere: what is known of k, and then of k + 1
+pub each_more : (f : ℕ → Bool) (k : ℕ) (a b : Bool) → a ≡ each k f → b ≡ f (k + 1) → a && b ≡ each (k + 1) f
+unfolding each
+each_more f k a b e h = rw add-one (ap₂ ◌&&◌ e (h ∙ ap f (add-one k)))
+
+pub each_all : (n : ℕ) (f : ℕ → Bool) (k : ℕ) (a : Bool) → a ≡ each k f → k ≤ n → n ≤ k → a ≡ each n f
+each_all n f k a e l m = subst (λ (x : ℕ). a ≡ each x f) (le_antisymm l m) e
+
+-- the same for one that begins with none
+pub record Tested (n : ℕ) (f : ℕ → Bool) (k : ℕ) (a : Bool) : Type 0 where
+  pub most : k ≤ n
+  pub is : a ≡ each k f
+
+pub tested_start : (n : ℕ) (f : ℕ → Bool) → Tested n f 0 true
+tested_start n f = record { most = omega arith; is = sym (each_none f) }
+
+module _ {n : ℕ} {f : ℕ → Bool} {k : ℕ} {a : Bool} (w : Tested n f k a) where
+  pub tested_on : {b : Bool} → k < n → b ≡ f (k + 1) → Tested n f (k + 1) (a && b)
+  tested_on {b} l h = record { most = omega arith; is = each_more f k a b w.is h }
+
+  pub tested_done : n ≤ k → a ≡ each n f
+  tested_done m = each_all n f k a w.is w.most m
 
 -- ---- a loop from n on that leaves nowhere: the first n pass at once, and k has been asked
 

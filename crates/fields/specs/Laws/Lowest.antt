@@ -1,12 +1,13 @@
--- Laws of `lowest`: what it finds, and the same as an option. Assumes nothing.
-use Rattle.std.specs.Prelude.{◌≡◌, refl, Bool, true, false, not, cond, ◌≢◌, Option, None, Some, ℕ, zero, suc, ◌≤◌, ◌<◌, eqb}
+-- Laws of `lowest`: what it finds, a loop's three places, and the same as an option. Assumes nothing.
+use Rattle.std.specs.Prelude.{◌≡◌, refl, Bool, true, false, not, cond, ◌≢◌, Option, None, Some, ℕ, zero, suc, ◌≤◌, ◌<◌, eqb, ◌+◌}
 use Rattle.std.proofs.Math.Path.{sym, ap}
-use Rattle.std.proofs.Common.{◌∙◌, ⊎_elim, ne_eqb, eqb-true, arith, subst}
+use Rattle.std.proofs.Common.{◌∙◌, ⊎_elim, ne_eqb, eqb-true, arith, subst, le_antisymm}
 use Rattle.std.proofs.lemmas.Bool.{eqb-false, false≢true}
 use Rattle.std.specs.Option.{IfSome, is_some}
 use Rattle.terms.specs.Base.{Range, if_any}
 use Rattle.fields.specs.Base.{lowest}
 use Rattle.fields.specs.Laws.Each.{range, last_or}
+use Rattle.std.proofs.Math.Numerals.{add-one}
 
 -- k is the lowest of 1 to n that passes
 pub record Lowest (n : ℕ) (f : ℕ → Bool) (k : ℕ) : Type 0 where
@@ -70,6 +71,39 @@ lowest_at (suc n) f h = go (lowest_at n f) (eqb (lowest n f) 0) refl (f (suc n))
         let w = ih h in
         let a = w.range.high in
         record { range = range w.range.low (omega arith); passes = w.passes; below = w.below }
+
+-- ---- a loop that counts up to n and leaves at the first that passes: it asks for k + 1 after k have failed
+
+pub record Sought (n : ℕ) (f : ℕ → Bool) (k : ℕ) : Type 0 where
+  pub most : k ≤ n
+  pub none : lowest k f ≡ 0
+
+-- what it gives
+abbrev pub Found : ℕ → (ℕ → Bool) → ℕ → Type 0
+Found n f k = (k ≡ lowest n f) × (k ≤ n)
+
+pub sought_start : (n : ℕ) (f : ℕ → Bool) → Sought n f 0
+unfolding lowest
+sought_start n f = record { most = omega arith; none = refl }
+
+module _ {n : ℕ} {f : ℕ → Bool} {k : ℕ} (w : Sought n f k) where
+  pub sought_pass : {r : Bool} → k < n → r ≡ f (k + 1) → r ≡ false → Sought n f (k + 1)
+  unfolding lowest
+  sought_pass l q h = record { most = omega arith; none = rw add-one (rw (w.none, ap f (sym (add-one k)) ∙ sym q ∙ h)) }
+
+  pub sought_stop : {r : Bool} → k < n → r ≡ f (k + 1) → r ≡ true → Found n f (k + 1)
+  sought_stop l q h = (
+    sym (lowest_is n f (k + 1)
+        (record {
+          range = range (omega arith) (omega arith);
+          passes = sym q ∙ h;
+          below = λ i a b. lowest_nil k f w.none i (range a (omega arith));
+        })),
+    omega arith,
+  )
+
+  pub sought_done : n ≤ k → Found n f 0
+  sought_done m = (sym (subst (λ (x : ℕ). lowest x f ≡ 0) (le_antisymm w.most m) w.none), omega arith)
 
 -- ---- the same as an option
 

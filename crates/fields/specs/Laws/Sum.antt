@@ -1,6 +1,6 @@
 -- Laws of `sum` and `count`. Assumes nothing.
 use Rattle.std.specs.Prelude.{◌≡◌, refl, Bool, true, false, ◌≢◌, ℕ, zero, suc, ◌+◌, ◌-◌, ◌*◌, ◌≤◌, ◌<◌, eqb}
-use Rattle.std.proofs.Common.{sym, ap, ap₂, ◌∙◌, ⊎_elim, arith, ne_eqb, eqb-true}
+use Rattle.std.proofs.Common.{sym, ap, ap₂, ◌∙◌, ⊎_elim, arith, ne_eqb, eqb-true, subst, le_antisymm, add-one}
 use Rattle.terms.specs.Laws.Bools.{cases}
 use Rattle.terms.specs.Base.{Range}
 use Rattle.fields.specs.Base.{sum, one, count}
@@ -31,6 +31,14 @@ sum_next f {k} l e q =
 
 pub sum_last : (f : ℕ → ℕ) (k : ℕ) → 1 ≤ k → sum (k - 1) f + f k ≡ sum k f
 sum_last f k l = let e : k + 1 - 1 ≡ k = omega arith in sum_next f l refl refl ∙ ap (λ (x : ℕ). sum x f) e
+
+-- a loop that adds up: it asks for k + 1 after k have been added
+pub sum_pass : (f : ℕ → ℕ) (k n r : ℕ) → n ≡ sum k f → r ≡ f (k + 1) → n + r ≡ sum (k + 1) f
+unfolding sum
+sum_pass f k n r e q = rw add-one (ap₂ (λ (a b : ℕ). a + b) e (q ∙ ap f (add-one k)))
+
+pub sum_done : (f : ℕ → ℕ) (m k n : ℕ) → n ≡ sum k f → k ≤ m → m ≤ k → n ≡ sum m f
+sum_done f m k n e l g = subst (λ (x : ℕ). n ≡ sum x f) (le_antisymm l g) e
 
 pub sum_ext : (n : ℕ) (f g : ℕ → ℕ) → ((k : ℕ) → Range 1 n k → f k ≡ g k) → sum n f ≡ sum n g
 unfolding sum

@@ -3,8 +3,8 @@ use Rattle.std.specs.Prelude.{◌≡◌, refl, true, false, not, ◌&&◌, List,
 use Rattle.std.proofs.Math.Path.{sym}
 use Rattle.std.proofs.Common.{ap, ◌∙◌}
 use borrow.Author.Tests.{eq-eqb, ne_eqb}
-use Rattle.terms.specs.Base.{within, if_any}
-use Rattle.terms.specs.Laws.Bools.{cases, fails}
+use Rattle.terms.specs.Base.{within, if_any, Range}
+use Rattle.terms.specs.Laws.Bools.{cases, fails, within_at}
 use Rattle.fields.specs.Rule.View.{View, there, tenant}
 use Rattle.fields.specs.Rule.Layout.{view, seat_of_id, serial_of_id}
 use Rattle.fields.specs.Rule.Word.{live, used}
@@ -19,6 +19,15 @@ use Rattle.fields.specs.Laws.There.{absent, live_there}
 pub let_is : (t : List ℕ) (s : ℕ) → not (eqb (view t (tenant s)) 0) ≡ leb 1 s && leb s 8 && not (eqb (view t (tenant s)) 0)
 unfolding there
 let_is t s = cases (within 1 8 s) (λ e. rw e) (λ e. rw (e, eq-eqb (view t (tenant s)) 0 (absent t (tenant s) e)))
+
+-- ---- a seat that is let
+
+-- one that is not of the eight shows no tenant
+pub unlet : (t : List ℕ) (s : ℕ) → (Range 1 8 s → ⊥) → false ≡ not (eqb (view t (tenant s)) 0)
+unfolding there
+unlet t s h =
+    let none = cases (within 1 8 s) (λ e. absurd (h (within_at 1 8 s e))) (λ e. absent t (tenant s) e) in
+    sym (ap not (eq-eqb (view t (tenant s)) 0 none))
 
 module _ (v : View) where
   -- ---- what is sought

@@ -6,7 +6,7 @@ use Rattle.std.proofs.Math.Dec.{eqb}
 use borrow.Author.Tests.{le-leb}
 use Rattle.terms.specs.Base.{within}
 use Rattle.terms.specs.Names.{owner_of}
-use Rattle.terms.specs.Laws.Bools.{cases, within_high}
+use Rattle.terms.specs.Laws.Bools.{cases, within_high, within_low}
 use Rattle.fields.specs.Base.{each}
 use Rattle.fields.specs.Rule.View.{View, there, tenant, options, opens, serial, row, waiting, number, owner}
 use Rattle.fields.specs.Rule.Layout.{view}
@@ -25,6 +25,15 @@ turned false true = refl
 turned false false = refl
 
 -- ---- a field that is not there
+
+-- no row 0, and none above 80
+pub unused_low : (t : List ℕ) (p : ℕ) → p ≡ 0 → used (view t) p ≡ false
+unfolding there
+unused_low t p e = zero_unused (view t) p (absent t (number p) (within_low 1 80 p (omega arith)))
+
+pub unused_high : (t : List ℕ) (p : ℕ) → 80 < p → used (view t) p ≡ false
+unfolding there
+unused_high t p h = zero_unused (view t) p (absent t (number p) (within_high 1 80 p h))
 
 -- no slot above 10
 pub free_high : (t : List ℕ) (s k : ℕ) → 10 < k → live (view t) s k ≡ false

@@ -1,5 +1,5 @@
 -- How long words and lines are at most. Assumes nothing.
-use Rattle.std.specs.Prelude.{ℕ, ◌+◌, ◌*◌, ◌≤◌, ◌<◌, ◌≡◌, refl, Bool, true, false, cond, ◌≢◌, List, [], ◌∷◌, length, eqb}
+use Rattle.std.specs.Prelude.{ℕ, ◌+◌, ◌*◌, ◌≤◌, ◌<◌, ◌≡◌, refl, Bool, true, false, cond, ◌≢◌, List, [], ◌∷◌, length, eqb, ◌++◌}
 use Rattle.std.proofs.Common.{arith, length-append, ne_eqb}
 use Rattle.rules.specs.Sheet.{Frame, frames, Outcome}
 use Rattle.rules.specs.Inner.{size}
@@ -12,6 +12,13 @@ use Rattle.logs.specs.Laws.Hex.{length_hex}
 pub length_number : (x : ℕ) → length (number x) ≤ 21
 unfolding number
 length_number x = let h = length_decimal x in omega arith
+
+pub length_three : (x y z : ℕ) → length (number x ++ (number y ++ number z)) ≤ 63
+length_three x y z =
+    let a = length_number x in
+    let b = length_number y in
+    let c = length_number z in
+    simp length-append (omega arith)
 
 pub length_numbers : (l : List ℕ) → length (numbers l) ≤ 21 * length l
 unfolding numbers

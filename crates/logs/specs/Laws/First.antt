@@ -29,6 +29,20 @@ module _ (s : List ℕ) where
   head_oversized : 10 ≤ length s → oversized s ≡ ltb 4096 (num s 6 4)
   head_oversized h = rw (oversized_is, le-leb 10 (length s) h) refl
 
+  -- ---- where they fail
+
+  pub whole_short : length s < 10 → false ≡ whole s
+  unfolding whole
+  whole_short h = rw (lt-leb 10 (length s) h)
+
+  pub whole_over : {k : ℕ} → 10 ≤ length s → k ≡ num s 6 4 → 4096 < k → false ≡ whole s
+  unfolding whole
+  whole_over {k} h e o = rw (← e, le-leb 10 (length s) h, lt-leb k 4096 o)
+
+  pub oversized_short : length s < 10 → false ≡ oversized s
+  unfolding oversized
+  oversized_short h = rw (lt-leb 10 (length s) h)
+
   -- ---- what a test says that holds
 
   pub record Whole : Type 0 where

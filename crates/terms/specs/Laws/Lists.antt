@@ -1,6 +1,6 @@
--- Laws of the words on lists: all, one, rising, equal. Assumes nothing.
-use Rattle.std.specs.Prelude.{◌≡◌, refl, Bool, true, false, ◌&&◌, ◌||◌, List, [], ◌∷◌, ◌++◌, map, ℕ, ◌-◌, length, take, drop, eqb}
-use Rattle.std.proofs.Common.{sym, ap, ap₂, arith, length-drop, take_all, eqb-true, eq-eqb}
+-- Laws of the words on lists: all, one, rising, equal. What is left of a slice is read by `_step` and `_end`. Assumes nothing.
+use Rattle.std.specs.Prelude.{◌≡◌, refl, Bool, true, false, ◌&&◌, ◌||◌, List, [], ◌∷◌, ◌++◌, map, ℕ, ◌-◌, length, take, drop, eqb, ◌+◌, ◌≤◌, ◌<◌, get_or}
+use Rattle.std.proofs.Common.{sym, ap, ap₂, arith, length-drop, take_all, eqb-true, eq-eqb, add-one, drop_of_length-le, drop-cons}
 use Rattle.std.proofs.lemmas.Bool.{false≢true}
 use Rattle.std.proofs.Math.Bool.{and_assoc, or_assoc}
 use Rattle.terms.specs.Base.{every, some, rising, alike}
@@ -13,10 +13,28 @@ unfolding every
 every_append f [] ys = refl
 every_append f (x ∷ xs) ys = rw (every_append f xs ys) (sym (and_assoc (f x) (every f xs) (every f ys)))
 
+pub every_step : (f : ℕ → Bool) (s : List ℕ) (i : ℕ) → i < length s
+    → every f (drop i s) ≡ f (get_or s i 0) && every f (drop (i + 1) s)
+unfolding every
+every_step f s i h = rw (add-one, drop-cons s i 0)
+
+pub every_end : (f : ℕ → Bool) (s : List ℕ) (i : ℕ) → length s ≤ i → every f (drop i s) ≡ true
+unfolding every
+every_end f s i h = rw (drop_of_length-le s h)
+
 pub some_append : {A : Type 0} (f : A → Bool) (xs ys : List A) → some f (xs ++ ys) ≡ some f xs || some f ys
 unfolding some
 some_append f [] ys = refl
 some_append f (x ∷ xs) ys = rw (some_append f xs ys) (sym (or_assoc (f x) (some f xs) (some f ys)))
+
+pub some_step : (f : ℕ → Bool) (s : List ℕ) (i : ℕ) → i < length s
+    → some f (drop i s) ≡ f (get_or s i 0) || some f (drop (i + 1) s)
+unfolding some
+some_step f s i h = rw (add-one, drop-cons s i 0)
+
+pub some_end : (f : ℕ → Bool) (s : List ℕ) (i : ℕ) → length s ≤ i → some f (drop i s) ≡ false
+unfolding some
+some_end f s i h = rw (drop_of_length-le s h)
 
 -- ---- good and rising
 

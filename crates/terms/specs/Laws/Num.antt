@@ -1,7 +1,7 @@
 -- Numbers of any width at any offset: what is read after a write, once over the offset and the width. Assumes nothing.
 use Rattle.std.specs.Prelude.{◌≡◌, refl, List, ◌≢◌, ℕ, zero, suc, ◌+◌, ◌-◌, ◌*◌, ◌/◌, ◌%◌, ◌^◌, ◌≤◌, ◌<◌, length, get_or, set, drop, take, [], ◌∷◌, ◌++◌}
 use Rattle.std.specs.Int.{w64, bytes_high_first, to_be_bytes}
-use Rattle.std.proofs.Common.{ap, ap₂, ◌∙◌, sym, pow-suc, div-lt_iff_lt-mul, add-one, add-zero, zero-add, zero-mul, mul_comm, arith, lit<, append_assoc, drop-cons, length-append, length-drop, length-take-le, take-append-drop, length-set, get_or-set_same, get_or-set_other}
+use Rattle.std.proofs.Common.{ap, ap₂, ◌∙◌, sym, pow-suc, div-lt_iff_lt-mul, add-one, add-zero, zero-add, zero-mul, mul_comm, arith, lit<, append_assoc, drop-cons, length-append, length-drop, length-take-le, take-append-drop, length-set, get_or-set_same, get_or-set_other, subst, add-suc, mul-one}
 use Rattle.std.proofs.lemmas.List.{set_at, take_all}
 use Rattle.std.proofs.Math.Nat.{div-div-eq-div-mul, pow-le-pow_right}
 use borrow.Rule.Slice.PartMut.{put_mid}
@@ -76,6 +76,25 @@ num_fits t at w h l =
     let b : 256 ^ suc w ≤ 256 ^ 8 = pow-le-pow_right (lit< tt) {i = suc w} {j = 8} l in
     omega (arith, num_suc t at w)
 
+-- two numbers that adjoin are one, read and written
+pub num_add : (t : List ℕ) (at v w : ℕ) → num t at (v + w) ≡ num t at v * 256 ^ w + num t (at + v) w
+unfolding num
+num_add t at v zero = simp (add-zero, mul-one)
+num_add t at v (suc w) =
+    let e = num_add t at v w in
+    let a : at + (v + w) ≡ at + v + w = omega arith in
+    rw (add-suc, e, a) (simp (pow-suc) (omega arith))
+
+pub put_add : (t : List ℕ) (at v w x : ℕ) → put t at (v + w) x ≡ put (put t at v (x / 256 ^ w)) (at + v) w x
+unfolding put
+put_add t at v zero x = rw (add-zero) (ap (λ (y : ℕ). put t at v y) (omega arith))
+put_add t at v (suc w) x =
+    let d : x / 256 ^ suc w ≡ x / 256 / 256 ^ w
+    = ap (λ (y : ℕ). x / y) (pow-suc 256 w ∙ mul_comm (256 ^ w) 256) ∙ sym (div-div-eq-div-mul x 256 (256 ^ w)) in
+    let a : at + (v + w) ≡ at + v + w = omega arith in
+    subst (λ y. put t at (v + suc w) x ≡ put (put t at v y) (at + v) (suc w) x) (sym d)
+    (rw add-suc (ap₂ (λ (l : List ℕ) (p : ℕ). set l p (x % 256)) (put_add t at v w (x / 256)) a))
+
 -- ---- the widths in use
 
 pub num1 : (t : List ℕ) (at : ℕ) → num t at 1 ≡ get_or t at 0
@@ -86,9 +105,27 @@ pub num2 : (t : List ℕ) (at : ℕ) → num t at 2 ≡ get_or t at 0 * 256 + ge
 unfolding num
 num2 t at = simp (add-zero, zero-mul, zero-add)
 
+pub num4 : (t : List ℕ) (at : ℕ) → num t at 4 ≡ num t at 2 * 65536 + num t (at + 2) 2
+num4 t at = num_add t at 2 2
+
 pub put1 : (t : List ℕ) (at x : ℕ) → x < 256 → put t at 1 x ≡ set t at x
 unfolding put
 put1 t at x h = ap₂ (λ (p y : ℕ). set t p y) (add-zero at) (omega arith)
+
+pub put2 : (t : List ℕ) (at x : ℕ) → x < 65536 → put t at 2 x ≡ set (set t at (x / 256)) (at + 1) (x % 256)
+unfolding put
+put2 t at x h = ap₂ (λ (p y : ℕ). set (set t p y) (at + 1) (x % 256)) (add-zero at) (omega arith)
+
+-- of a number only its last bytes are written
+put2_low : (t : List ℕ) (at x : ℕ) → put t at 2 (x % 65536) ≡ put t at 2 x
+unfolding put
+put2_low t at x =
+    let a : x % 65536 / 256 % 256 ≡ x / 256 % 256 = omega arith in
+    let b : x % 65536 % 256 ≡ x % 256 = omega arith in
+    rw (a, b)
+
+pub put4 : (t : List ℕ) (at x : ℕ) → put t at 4 x ≡ put (put t at 2 (x / 65536)) (at + 2) 2 (x % 65536)
+put4 t at x = put_add t at 2 2 x ∙ sym (put2_low (put t at 2 (x / 65536)) (at + 2) x)
 
 -- ---- written by std's `to_be_bytes`
 

@@ -1,7 +1,7 @@
--- Equations that names/src/book.rt goes by: the trailer's fields, and soundness test by test.
+-- Equations that names/src/book.rt goes by: the trailer's fields, parts behind one another, soundness test by test.
 -- Assumes nothing.
-use Rattle.std.specs.Prelude.{◌≡◌, refl, Bool, true, false, ◌&&◌, List, ℕ, ◌+◌, ◌*◌, ◌-◌, length, get_or, leb, eqb}
-use Rattle.std.proofs.Common.{arith, eqb-true, le-leb}
+use Rattle.std.specs.Prelude.{◌≡◌, refl, Bool, true, false, ◌&&◌, List, ℕ, ◌+◌, ◌*◌, ◌-◌, length, get_or, leb, eqb, ◌<◌}
+use Rattle.std.proofs.Common.{arith, eqb-true, le-leb, ne_eqb}
 use Rattle.std.proofs.Math.Bool.{and-false}
 use Rattle.terms.specs.Base.{within}
 use Rattle.terms.specs.Rule.Num.{num}
@@ -11,6 +11,10 @@ use Rattle.terms.specs.Rule.Book.{order_size, trailer_size, trailer, orders_at, 
 use Rattle.terms.specs.Rule.Book.{orders_from, names_from, end_from, orders, listed, legal_form, adjoins, sound_book}
 use Rattle.terms.specs.Laws.Bools.{cases}
 use Rattle.terms.specs.Laws.Book.{end_rises}
+
+pub trailer_is : (b : List ℕ) → trailer b ≡ length b - trailer_size
+unfolding trailer
+trailer_is b = refl
 
 pub orders_at_is : (b : List ℕ) → orders_at b ≡ num b (length b - trailer_size) 2
 unfolding orders_at trailer
@@ -32,11 +36,29 @@ pub names_count_is : (b : List ℕ) → names_count b ≡ num b (length b - trai
 unfolding names_count trailer
 names_count_is b = refl
 
+pub legal_form_is : (x : ℕ) → legal_form x ≡ eqb x 0
+unfolding legal_form
+legal_form_is x = refl
+
 pub ruleset trailer_reads = (orders_at_is, orders_count_is, form_is, names_at_is, names_count_is)
 
 pub orders_is : (b : List ℕ) → orders b ≡ orders_from b 0 (orders_count b)
 unfolding orders
 orders_is b = refl
+
+-- ---- the parts behind one another
+
+pub gap : (b : List ℕ) (until : ℕ) (x y : Bool) → (names_at b ≡ order_size * orders_count b → ⊥) → adjoins b until && x && y ≡ false
+unfolding adjoins
+gap b until x y h = rw (ne_eqb (names_at b) (order_size * orders_count b) h)
+
+pub overrun : (b : List ℕ) (until : ℕ) (x y : Bool) → until < names_at b → adjoins b until && x && y ≡ false
+unfolding adjoins
+overrun b until x y h =
+    let r = end_rises b (names_at b) (names_count b) in
+    let e : eqb (end_from b (names_at b) (names_count b)) until ≡ false =
+    ne_eqb (end_from b (names_at b) (names_count b)) until (λ q. omega arith) in
+    rw (e, and-false)
 
 -- ---- soundness, test by test
 

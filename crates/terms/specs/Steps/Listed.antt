@@ -1,5 +1,5 @@
 -- Equations and steps that names/src/listed.rt goes by. Assumes nothing.
-use Rattle.std.specs.Prelude.{◌≡◌, refl, Bool, true, false, ◌&&◌, ◌⊎◌, Option, Some, None, MatchOption, slice_range, not, length, take, drop}
+use Rattle.std.specs.Prelude.{◌≡◌, refl, Bool, true, false, ◌&&◌, ◌⊎◌, Option, Some, None, MatchOption, slice_range, not, length, take, drop, ◌||◌, ltb}
 use Rattle.std.specs.Ordering.{nat_cmp, is_le, is_some_and}
 use Rattle.std.specs.Cmp.Lexicographic.{slice_partial_cmp}
 use Rattle.std.proofs.Math.Path.{ap}
@@ -8,7 +8,7 @@ use Rattle.std.proofs.lemmas.Cmp.{same_from_slice_cmp_tested}
 use Rattle.std.proofs.Math.Bool.{and-true}
 use mathlib.Core.List.{List, [], ◌∷◌}
 use Prim.Native.Nat.{ℕ, suc, ◌+◌, ◌-◌, ◌≤◌, ◌<◌}
-use Rattle.std.proofs.Common.{sym, ◌∙◌, get_or-take, get_or-drop, drop-drop, length-take-le, length-drop, add-zero, ap₂, ⊎_elim}
+use Rattle.std.proofs.Common.{sym, ◌∙◌, get_or-take, get_or-drop, drop-drop, length-take-le, length-drop, add-zero, ap₂, ⊎_elim, add-one, drop_of_length-le, drop-cons}
 use Rattle.std.proofs.lemmas.List.{drop-take, take-take}
 use native.Mathlib.Omega.{arith}
 use Rattle.std.proofs.lemmas.Bool.Decides.{nat_tests}
@@ -30,6 +30,24 @@ unfolding before
 not_before =
     same_from_slice_cmp_tested nat_cmp is_le (λ t s. not (before s t)) refl (λ _ _. refl) (λ _ _. refl)
     (λ x y xs ys o h. grind (arith, nat_tests))
+
+pub before_step : (s t : List ℕ) (i : ℕ) → i < length s → i < length t
+    → before (drop i s) (drop i t)
+    ≡ ltb (get_or s i 0) (get_or t i 0) || eqb (get_or s i 0) (get_or t i 0) && before (drop (i + 1) s) (drop (i + 1) t)
+unfolding before
+before_step s t i h k = rw (add-one, drop-cons s i 0 h, drop-cons t i 0 k)
+
+pub before_out : (s t : List ℕ) (i : ℕ) → length s ≤ i → i < length t → before (drop i s) (drop i t) ≡ true
+unfolding before
+before_out s t i h k = rw (drop_of_length-le s h, drop-cons t i 0 k)
+
+before_nothing : (s : List ℕ) → before s [] ≡ false
+unfolding before
+before_nothing [] = refl
+before_nothing (x ∷ s) = refl
+
+pub before_end : (s t : List ℕ) (i : ℕ) → length t ≤ i → before (drop i s) (drop i t) ≡ false
+before_end s t i h = rw (drop_of_length-le t h) (before_nothing (drop i s))
 
 -- ---- one listed name
 

@@ -97,6 +97,18 @@ pub ruleset labelled = (no_label, no_more, one_more, fits)
 
 -- ---- the longest match, as far as it is found, and the names that are left after the first i of n
 
+pub matched_step : (h b : List ℕ) (at k : ℕ) → 0 < k
+    → matched h (names_from b at k)
+    ≡ max (cond (under h (name_at b at)) (length (name_at b at)) 0) (matched h (names_from b (next_at b at) (k - 1)))
+unfolding matched names_from
+matched_step h b at zero l = absurd (omega arith)
+matched_step h b at (suc k) l = let e : suc k - 1 ≡ k = omega arith in rw e
+
+pub matched_end : (h b : List ℕ) (at k : ℕ) → k ≤ 0 → matched h (names_from b at k) ≡ 0
+unfolding matched names_from
+matched_end h b at zero l = refl
+matched_end h b at (suc k) l = absurd (omega arith)
+
 -- a count as a number
 pub or_zero : Option ℕ → ℕ
 or_zero None = 0

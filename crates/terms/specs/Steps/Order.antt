@@ -1,6 +1,6 @@
 -- Equations and steps that src/order.rt and names/src/orders.rt go by. Assumes nothing.
-use Rattle.std.specs.Prelude.{Option, Some, None, ◌≡◌, refl, Bool, true, ◌&&◌, cond, List, [], ◌∷◌, ℕ, suc, ◌+◌, ◌*◌, ◌-◌, ◌%◌, ◌≤◌, ◌<◌, get_or, leb, ltb, eqb}
-use Rattle.std.proofs.Common.{arith, lt-ltb}
+use Rattle.std.specs.Prelude.{Option, Some, None, ◌≡◌, refl, Bool, true, ◌&&◌, cond, List, [], ◌∷◌, ℕ, suc, ◌+◌, ◌*◌, ◌-◌, ◌%◌, ◌≤◌, ◌<◌, get_or, leb, ltb, eqb, zero}
+use Rattle.std.proofs.Common.{arith, lt-ltb, ◌∙◌, eq-eqb, ne_eqb}
 use Rattle.terms.specs.Base.{within, every, rising}
 use Rattle.terms.specs.Rule.Order.{most_options, legal_options, is_separate, is_order, seat_before, sound_orders, letting_of, owner_of}
 use Rattle.terms.specs.Rule.Book.{order_size, order_at, orders_from}
@@ -103,3 +103,27 @@ unfolding said letting_of
 said_end b seat i n h = rw (orders_end b i n h)
 
 pub ruleset saying = (said_start, said_more, said_end)
+
+-- ---- what the k orders from a place on say of a seat
+
+pub letting_step : (b : List ℕ) (seat at k : ℕ) → 0 < k
+    → letting_of seat (orders_from b at k)
+    ≡ cond (eqb (order_at b at).seat seat) (Some (record { tenant = (order_at b at).tenant; options = (order_at b at).options }))
+    (letting_of seat (orders_from b (at + order_size) (k - 1)))
+unfolding letting_of orders_from
+letting_step b seat at zero h = absurd (omega arith)
+letting_step b seat at (suc k) h = let e : suc k - 1 ≡ k = omega arith in rw e
+
+-- the first of them, once it is read, is the seat's, or is passed by
+pub letting_found : (b : List ℕ) (seat at k : ℕ) {o : Order} → 0 < k → o ≡ order_at b at → o.seat ≡ seat
+    → letting_of seat (orders_from b at k) ≡ Some (record { tenant = o.tenant; options = o.options })
+letting_found b seat at k {o} h e q = letting_step b seat at k h ∙ rw (← e, eq-eqb o.seat seat q)
+
+pub letting_passed : (b : List ℕ) (seat at k : ℕ) {o : Order} → 0 < k → o ≡ order_at b at → (o.seat ≡ seat → ⊥)
+    → letting_of seat (orders_from b at k) ≡ letting_of seat (orders_from b (at + order_size) (k - 1))
+letting_passed b seat at k {o} h e n = letting_step b seat at k h ∙ rw (← e, ne_eqb o.seat seat n)
+
+pub letting_end : (b : List ℕ) (seat at k : ℕ) → k ≤ 0 → letting_of seat (orders_from b at k) ≡ None
+unfolding letting_of orders_from
+letting_end b seat at zero h = refl
+letting_end b seat at (suc k) h = absurd (omega arith)

@@ -1,6 +1,6 @@
 -- Equations of the classes and labels that src/walk.rt and src/name.rt go by, and a search for a dot in std's word.
 -- Assumes nothing.
-use Rattle.std.specs.Prelude.{Some, None, ◌≡◌, refl, Bool, true, false, not, ◌&&◌, ◌||◌, cond, List, [], ◌∷◌, ℕ, ◌+◌, ◌<◌, length, get_or, drop, ltb, eqb}
+use Rattle.std.specs.Prelude.{Some, None, ◌≡◌, refl, Bool, true, false, not, ◌&&◌, ◌||◌, cond, List, [], ◌∷◌, ℕ, ◌+◌, ◌<◌, length, get_or, drop, ltb, eqb, ◌≤◌}
 use Rattle.std.specs.List.{list_any}
 use Rattle.std.proofs.Common.{ap}
 use Rattle.terms.specs.Base.{within, some}
@@ -9,6 +9,15 @@ use Rattle.terms.specs.Walk.{class_of, fresh, grown, is_whole, next, onward, wal
 use Rattle.terms.specs.Laws.Walk.{walk_step, walk_end, walk_off, name_walk}
 use Rattle.terms.specs.declared.walk.Class.TheVariants.{Dot, Hyphen, Digit, Letter, Other}
 use Rattle.terms.specs.declared.walk.Label.{Label}
+use Rattle.terms.specs.Laws.Lists.{some_step, some_end}
+
+pub letter_is : (x : ℕ) → is_letter x ≡ within 97 122 x || within 65 90 x
+unfolding is_letter
+letter_is x = refl
+
+pub digit_is : (x : ℕ) → is_digit x ≡ within 48 57 x
+unfolding is_digit
+digit_is x = refl
 
 pub class_is : (x : ℕ)
     → class_of x
@@ -50,6 +59,10 @@ pub next_other : (l : Label) → next l Other ≡ None
 unfolding next
 next_other l = refl
 
+pub onward_on : (l : Label) (x : ℕ) → onward (Some l) x ≡ next l (class_of x)
+unfolding onward
+onward_on l x = refl
+
 pub ruleset next_is = (next_dot, next_hyphen, next_digit, next_letter, next_other)
 
 pub end_on : (l : Label) → may_end (Some l) ≡ is_whole l && not l.digits
@@ -65,6 +78,14 @@ pub dot_any : (s : List ℕ) → has_dot s ≡ list_any (λ x. eqb x 46) s
 unfolding has_dot some
 dot_any [] = refl
 dot_any (x ∷ s) = ap (λ (b : Bool). eqb x 46 || b) (dot_any s)
+
+pub dot_step : (s : List ℕ) (i : ℕ) → i < length s → has_dot (drop i s) ≡ eqb (get_or s i 0) 46 || has_dot (drop (i + 1) s)
+unfolding has_dot
+dot_step s i h = some_step (λ x. eqb x 46) s i h
+
+pub dot_end : (s : List ℕ) (i : ℕ) → length s ≤ i → has_dot (drop i s) ≡ false
+unfolding has_dot
+dot_end s i h = some_end (λ x. eqb x 46) s i h
 
 -- ---- the loop of walk, with i bytes read
 
