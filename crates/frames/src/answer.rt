@@ -14,12 +14,19 @@ pub fn done(actions: u8, written: usize) -> Result<Done, Refusal>
 }
 
 // All three in one number, as the two calls give them back.
-pub fn pack(answer: Result<Done, Refusal>) -> u64
+pub fn pack(number: u8, actions: u8, written: u16) -> u64
+    ensures { result ≡ packed number actions written }
+{
+    u64::from(number) + 256 * u64::from(actions) + 65536 * u64::from(written)
+}
+
+// The same of what a rule gives: a refusal's number beside no action and no byte.
+pub fn pack_given(answer: Result<Done, Refusal>) -> u64
     ensures { result ≡ packed (number_given answer) (actions_given answer) (written_given answer) }
 {
     match answer {
-        Ok(given) => 256 * u64::from(given.actions) + 65536 * u64::from(given.written),
-        Err(why) => u64::from(u8::from(why)),
+        Ok(given) => pack(0, given.actions, given.written),
+        Err(why) => pack(u8::from(why), 0, 0),
     }
 }
 

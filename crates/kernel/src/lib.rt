@@ -8,7 +8,7 @@ ghost use Rattle.rules.specs.Inner.{Decided};
 
 use events::read;
 use fields::layout::is_long;
-use frames::answer::{done, pack};
+use frames::answer::{done, pack_given};
 use names::book::is_sound;
 use rules::verdict::{Done, Refusal};
 use senders::serve;
@@ -22,13 +22,13 @@ pub fn stewlattice_start(table: &mut [u8], book: &[u8]) -> u64
     ensures { Started (start_of table.old book.now) table.new result }
 {
     if !is_long(table) {
-        return pack(Err(Refusal::BadTable));
+        return pack_given(Err(Refusal::BadTable));
     }
     if !is_sound(book) {
-        return pack(Err(Refusal::BadBook));
+        return pack_given(Err(Refusal::BadBook));
     }
     fresh(table, book);
-    pack(done(0, 0))
+    pack_given(done(0, 0))
 }
 
 // Refusals 1 to 3, and else what the event's rule decides.
@@ -51,5 +51,5 @@ pub fn stewlattice_step(table: &mut [u8], book: &[u8], event: &[u8], out: &mut [
     ensures { Stepped (step_of (length out.old) table.old book.now event.now) out.old table.new out.new result }
 {
     let given = decide(table, book, event, out);
-    pack(given)
+    pack_given(given)
 }

@@ -68,7 +68,9 @@ fn ask(table: &mut [u8], book: &[u8], room: &mut [u8], lent: Lent, l: &[u8], cal
 }
 
 impl Memory {
-    pub fn new() -> Memory {
+    pub fn new() -> Memory
+        ensures { (result.lent.table ≡ 6152) × (result.lent.book ≡ 0) × (result.lent.room ≡ 4106) }
+    {
         Memory {
             table: [0; 6153],
             book: [0; 4096],

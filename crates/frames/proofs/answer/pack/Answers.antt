@@ -1,9 +1,6 @@
 -- The sum is the definition. Assumes nothing.
-use Rattle.rules.proofs.Steps.Answer.{packed_done, packed_refused}
+use Rattle.rules.proofs.Steps.Answer.{packed_is}
 use Rattle.frames.proofs.answer.pack.Goals as goal
 
-pub returns-in-Ok : goal.returns-in-Ok
-returns-in-Ok c = packed_done c.in-Ok.given c.in-Ok.is c.from.ensures c.from-in-Ok.ensures
-
-pub returns-in-Err : goal.returns-in-Err
-returns-in-Err c = packed_refused c.in-Err.why c.in-Err.is c.from-in-Err.ensures c.from-in-Err-2.ensures
+pub returns : goal.returns
+returns c = rw (c.from.ensures, c.from-2.ensures, c.from-3.ensures) (packed_is _ _ _)
