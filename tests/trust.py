@@ -19,7 +19,7 @@ from specs import ROOT, SPECS, line_of, places_in, read, section, shown, theorem
 
 TRUST = 'docs/TRUST.md'
 # Whose contracts a reader relies on: the two calls and the question, and the programs' loops.
-CALLS = {'kernel': {'stewlattice_start', 'stewlattice_step'}, 'names': {'suffix'}}
+CALLS = {'kernel': {'stewlattice_start', 'stewlattice_step'}, 'names': {'suffix', 'ask'}}
 LOOPS = {'logging': {'begin', 'turn', 'run', 'log'}, 'asksuffix': {'turn', 'run'}}
 
 NAME = r'[^\s:(){}]+'

@@ -20,14 +20,23 @@ pub fn pack(number: u8, actions: u8, written: u16) -> u64
     u64::from(number) + 256 * u64::from(actions) + 65536 * u64::from(written)
 }
 
-// The same of what a rule gives: a refusal's number beside no action and no byte.
+// All three of what a rule gives: a refusal's number beside no action and no byte.
+pub fn counts(answer: Result<Done, Refusal>) -> (u8, u8, u16)
+    ensures number { result.0 ≡ number_given answer }
+    ensures actions { result.1 ≡ actions_given answer }
+    ensures written { result.2 ≡ written_given answer }
+{
+    match answer {
+        Ok(given) => (0, given.actions, given.written),
+        Err(why) => (u8::from(why), 0, 0),
+    }
+}
+
 pub fn pack_given(answer: Result<Done, Refusal>) -> u64
     ensures { result ≡ packed (number_given answer) (actions_given answer) (written_given answer) }
 {
-    match answer {
-        Ok(given) => pack(0, given.actions, given.written),
-        Err(why) => pack(u8::from(why), 0, 0),
-    }
+    let (number, actions, written) = counts(answer);
+    pack(number, actions, written)
 }
 
 #[tactic(auto, using(rules::proofs::Steps::Answer::number_in_is))]

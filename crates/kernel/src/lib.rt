@@ -8,7 +8,7 @@ ghost use Rattle.rules.specs.Inner.{Decided};
 
 use events::read;
 use fields::layout::is_long;
-use frames::answer::{done, pack_given};
+use frames::answer::{counts, done, pack, pack_given};
 use names::book::is_sound;
 use rules::verdict::{Done, Refusal};
 use senders::serve;
@@ -50,6 +50,6 @@ fn decide(table: &mut [u8], book: &[u8], event: &[u8], out: &mut [u8]) -> Result
 pub fn stewlattice_step(table: &mut [u8], book: &[u8], event: &[u8], out: &mut [u8]) -> u64
     ensures { Stepped (step_of (length out.old) table.old book.now event.now) out.old table.new out.new result }
 {
-    let given = decide(table, book, event, out);
-    pack_given(given)
+    let (number, actions, written) = counts(decide(table, book, event, out));
+    pack(number, actions, written)
 }

@@ -78,8 +78,9 @@ pub fn count_ready(s: &[u8], ended: bool, most: u64) -> Ready
                 };
             }
             Front::Cut => {
+                let some = 0 < part.len();
                 return Ready {
-                    count: count + u64::from(ended && !part.is_empty()),
+                    count: count + u64::from(ended && some),
                     last: ended,
                 };
             }

@@ -1,4 +1,6 @@
 // The questions to the names layer, and the line with the answer to one.
+ghost use Rattle.std.specs.Prelude.{◌≤◌, length};
+
 use crate::seat;
 use crate::shape::Question;
 use runs::changes::byte_at;
@@ -6,18 +8,23 @@ use runs::number::number_at;
 use runs::say;
 use terms::fold::{fold, is_folded};
 
+// A name folded over the first bytes of a room.
+fn fold_into(to: &mut [u8], name: &[u8])
+    requires { length name.now ≤ length to.old }
+{
+    for (letter, x) in to[..name.len()].iter_mut().zip(name) {
+        *letter = fold(*x);
+    }
+}
+
 // The bytes beside a name, once it is folded into them.
 fn into(rt: &impl Print, to: &mut [u8], name: &[u8], label: &[u8]) {
     if to.len() < name.len() {
-        say::told(rt, label, "refused");
+        say::told(rt, label, b"refused");
         return;
     }
-    for (letter, x) in to.iter_mut().zip(name) {
-        *letter = fold(*x);
-    }
-    say::text(rt, label);
-    say::text(rt, b" ");
-    say::line(rt, to);
+    fold_into(to, name);
+    say::told(rt, label, to);
 }
 
 // The number given back and the part of the host, or a hyphen for an empty one. The number lent holds `held` before.
@@ -43,7 +50,7 @@ pub fn answer(
         Question::Dot => say::test(rt, label, runs::dot::has_dot(text)),
         Question::Folded => say::test(rt, label, is_folded(text)),
         Question::Under => say::test(rt, label, terms::under::is_under(text, beside)),
-        Question::Fold => say::told(rt, label, fold(first)),
+        Question::Fold => say::shown(rt, label, fold(first)),
         Question::Into => into(rt, beside, text, label),
         Question::Seat => seat::say(rt, beside, first, label),
         Question::Owner => {

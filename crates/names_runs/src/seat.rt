@@ -14,11 +14,11 @@ pub fn say_owner(rt: &impl Print, seat: u8, tenant: u8, options: u8) {
 
 pub fn say(rt: &impl Print, book: &[u8], seat: u8, label: &[u8]) {
     if !names::book::is_sound(book) {
-        say::told(rt, label, "unsound");
+        say::told(rt, label, b"unsound");
         return;
     }
     match names::book::letting_of(book, seat) {
-        None => say::told(rt, label, "not let"),
+        None => say::told(rt, label, b"not let"),
         Some(Letting { tenant, options }) => {
             say::text(rt, label);
             let _ = print!(rt; " tenant {tenant} separate {options}");

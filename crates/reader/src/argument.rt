@@ -19,17 +19,16 @@ pub fn answered(rt: &(impl Print + Eprint + Env), who: &[u8], help: &[u8]) -> bo
     let alone = !is_argument(rt, 2);
     let mut word = [0u8; 16];
     let n = rt.arg(1, &mut word).unwrap_or(0);
-    let _ = match &word[..n] {
-        b"--help" if alone => put_out(rt, help, who),
-        b"--version" if alone => put_version(rt, who),
-        _ => {
-            say(
-                rt,
-                who,
-                b"takes one argument at most: --help explains its use, --version tells its version",
-            );
-            Ok(())
+    match &word[..n] {
+        b"--help" if alone => {
+            let _ = put_out(rt, help, who);
         }
-    };
+        b"--version" if alone => put_version(rt, who),
+        _ => say(
+            rt,
+            who,
+            b"takes one argument at most: --help explains its use, --version tells its version",
+        ),
+    }
     true
 }

@@ -12,16 +12,18 @@ pub fn byte_at(s: &[u8], i: usize) -> u8
 pub fn count(old: &[u8], new: &[u8]) -> usize
     ensures { result ≤ length new.now }
 {
-    new.iter()
-        .enumerate()
-        .filter(|(i, b)| byte_at(old, *i) != **b)
-        .count()
+    let mut n = 0;
+    for i in 0..new.len() {
+        n += usize::from(byte_at(old, i) != byte_at(new, i));
+    }
+    n
 }
 
 // A line for each byte that has changed.
 pub fn say_each(rt: &impl Print, old: &[u8], new: &[u8]) {
     if count(old, new) == 0 {
         let _ = println!(rt; "  nothing changes");
+        return;
     }
     for (i, is) in new.iter().enumerate() {
         let was = byte_at(old, i);

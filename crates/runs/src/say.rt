@@ -11,18 +11,24 @@ pub fn line(rt: &impl Print, s: &[u8]) {
     let _ = println!(rt; "");
 }
 
-// A label, and what is told under it.
-pub fn told(rt: &impl Print, label: &[u8], what: impl Display + Drop) {
+// A label and a word.
+pub fn told(rt: &impl Print, label: &[u8], word: &[u8]) {
+    text(rt, label);
+    text(rt, b" ");
+    line(rt, word);
+}
+
+// A label, and what is shown under it.
+pub fn shown(rt: &impl Print, label: &[u8], what: impl Display + Drop) {
     text(rt, label);
     let _ = println!(rt; " {what}");
 }
 
 pub fn test(rt: &impl Print, label: &[u8], holds: bool) {
-    told(rt, label, if holds { "yes" } else { "no" });
+    shown(rt, label, if holds { "yes" } else { "no" });
 }
 
 // A line of the script that is no command.
 pub fn bad(rt: &impl Print, l: &[u8]) {
-    text(rt, b"? ");
-    line(rt, l);
+    told(rt, b"?", l);
 }

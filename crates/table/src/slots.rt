@@ -18,5 +18,5 @@ pub fn free_slot(t: &[u8], s: usize) -> usize
     requires { HasSlot t.now s }
     ensures { (result ≡ free_slot (view t.now) s) × (Range 1 10 result) }
 {
-    slots(t, s).trailing_ones() as usize + 1
+    (!slots(t, s)).trailing_zeros() as usize + 1
 }

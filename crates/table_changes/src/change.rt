@@ -11,7 +11,7 @@ pub fn fresh(rt: &impl Print, t: &mut [u8; 6152], l: &[u8]) {
         Ok(()) => 0,
         Err(_) => 6,
     };
-    say::told(rt, word(l, 0), number);
+    say::shown(rt, word(l, 0), number);
     changes::say_count(rt, &old, t);
 }
 

@@ -6,19 +6,19 @@ use crate::why;
 use runs::say;
 
 fn refused(rt: &impl Print, label: &[u8]) {
-    say::told(rt, label, "refused");
+    say::told(rt, label, b"refused");
 }
 
 pub fn slot(rt: &impl Print, t: &[u8], s: usize, label: &[u8]) {
     match why::slot(t, s) {
-        Ok(()) => say::told(rt, label, table::slots::free_slot(t, s)),
+        Ok(()) => say::shown(rt, label, table::slots::free_slot(t, s)),
         Err(_) => refused(rt, label),
     }
 }
 
 pub fn count(rt: &impl Print, t: &[u8], s: usize, label: &[u8]) {
     match why::seat(t, s) {
-        Ok(()) => say::told(rt, label, table::slots::live_tabs(t, s)),
+        Ok(()) => say::shown(rt, label, table::slots::live_tabs(t, s)),
         Err(_) => refused(rt, label),
     }
 }
@@ -27,7 +27,7 @@ pub fn owner(rt: &impl Print, t: &[u8], s: usize, label: &[u8])
     requires { length t.now ≡ table_bytes }
 {
     if (1..=8).contains(&s) {
-        say::told(rt, label, soundness::tab::owner_at(t, s));
+        say::shown(rt, label, soundness::tab::owner_at(t, s));
     } else {
         refused(rt, label);
     }

@@ -24,8 +24,8 @@ fn cut(rt: &impl Print, t: &[u8], l: &[u8], n: usize) {
 
 fn say_place(rt: &impl Print, p: Option<Place>, label: &[u8]) {
     match p {
-        Some(Place { seat, slot }) => say::told(rt, label, format_args!("{seat} {slot}")),
-        None => say::told(rt, label, "nowhere"),
+        Some(Place { seat, slot }) => say::shown(rt, label, format_args!("{seat} {slot}")),
+        None => say::told(rt, label, b"nowhere"),
     }
 }
 
@@ -33,7 +33,7 @@ fn with(rt: &impl Print, t: &[u8], l: &[u8], owner: usize)
     requires { length t.now ≡ table_bytes }
 {
     match u8::try_from(owner) {
-        Ok(o) => say::told(
+        Ok(o) => say::shown(
             rt,
             word(l, 0),
             table::find::process_with(t, o, word(l, 2)).unwrap_or(0),
@@ -51,9 +51,9 @@ pub fn ask(rt: &impl Print, t: &[u8; 6152], l: &[u8], question: Question) {
         Question::Cut => cut(rt, t, l, n),
         Question::Show => show(rt, t, l, n, number_at(l, 2)),
         Question::Tab => say_place(rt, table::find::tab_of(t, n), label),
-        Question::Process => say::told(rt, label, table::find::process_of(t, n).unwrap_or(0)),
+        Question::Process => say::shown(rt, label, table::find::process_of(t, n).unwrap_or(0)),
         Question::With => with(rt, t, l, n),
-        Question::Row => say::told(rt, label, table::find::free_process(t).unwrap_or(0)),
+        Question::Row => say::shown(rt, label, table::find::free_process(t).unwrap_or(0)),
         Question::Slot => seat::slot(rt, t, n, label),
         Question::Count => seat::count(rt, t, n, label),
         Question::Owner => seat::owner(rt, t, n, label),

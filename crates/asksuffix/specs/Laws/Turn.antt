@@ -1,15 +1,16 @@
 -- How each exit of a turn comes to what its contract says, and what a turn leaves. Assumes nothing.
-use Rattle.std.specs.Prelude.{ℕ, ◌+◌, ◌-◌, ◌<◌, ◌≡◌, refl, Bool, true, false, List, length, take, drop}
+use Rattle.std.specs.Prelude.{ℕ, ◌+◌, ◌-◌, ◌≤◌, ◌<◌, ◌≡◌, refl, Bool, true, false, List, length, take, drop}
 use Rattle.std.proofs.Math.Path.{sym, ap}
 use Rattle.std.proofs.Common.{ap₂, ◌∙◌, zero-add, arith}
 use Rattle.terms.specs.Names.{num}
 use Rattle.rules.specs.Sheet.{over}
 use Rattle.rules.specs.Inner.{Wrote}
 use Rattle.reader.specs.Held.{Sound, held, Filled}
+use Rattle.reader.specs.Laws.Fill.{length_held}
 use Rattle.reader.specs.Laws.Past.{sound_past, held_past}
 use Rattle.asksuffix.specs.Rule.Hosts.{most_bytes, host_bytes, host_whole, first_host}
-use Rattle.asksuffix.specs.Rule.Answers.{answer_line}
-use Rattle.asksuffix.specs.Turn.{past, last, Gave, HostAnswered, Turn, answered, stopped, read}
+use Rattle.asksuffix.specs.Rule.Answers.{most_text, answer_line}
+use Rattle.asksuffix.specs.Turn.{Countable, Answerable, past, last, Gave, HostAnswered, Turn, answered, stopped, read}
 use Rattle.asksuffix.specs.Laws.Hosts.{whole_has}
 use Rattle.reader.specs.declared.place.Place.{Place}
 
@@ -45,6 +46,14 @@ last_is p = refl
 -- ---- from what is held
 
 module _ (buf b o : List ℕ) (p : Place) where
+  pub turn_given : {r : Bool} → Sound p (length buf) → length buf < 18446744073709551616 → most_text ≤ length o → Countable p
+      → r ≡ host_whole (held buf p) → r ≡ true → Answerable (held buf p) o p
+  turn_given s fits roomy counted e h =
+      let a = s.ahead in
+      let i = s.inside in
+      let l = length_held buf p s in
+      record { whole = sym e ∙ h; inside = omega arith; roomy = roomy; counted = counted }
+
   pub host_answered : {o' : List ℕ} {p' : Place} → Sound p (length buf) → host_whole (held buf p) ≡ true → Gave (held buf p) b o p o' p'
       → HostAnswered buf b o p buf o' p'
   unfolding past

@@ -83,3 +83,6 @@ shows_live w = record { sound = w.sound; seat = seat_lt w; there = λ h. w.there
 
 pub shows_none : {t o : List ℕ} {s k j : ℕ} → ReadyTab t o s k → j ≡ 0 → Shows t s j
 shows_none w e = record { sound = w.sound; seat = seat_lt w; there = λ h. absurd (h e) }
+
+pub shows_tab : {t : List ℕ} {s k : ℕ} → Shows t s k → k ≢ 0 → TabLive t s k
+shows_tab w h = record { sound = w.sound; there = w.there h }

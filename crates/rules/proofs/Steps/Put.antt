@@ -1,35 +1,43 @@
--- What frames/src/put.rt writes: a number's bytes, a frame's ten, and some bytes as they are or folded. Assumes nothing.
-use Rattle.std.specs.Prelude.{ℕ, ◌+◌, ◌-◌, ◌/◌, ◌%◌, ◌≤◌, ◌<◌, ◌≡◌, refl, List, [], ◌∷◌, ◌++◌, length, get_or, take, drop}
+-- What frames/src/put.rt writes: the turns of its loop, a number's bytes, and a frame's ten. Assumes nothing.
+use Rattle.std.specs.Prelude.{ℕ, ◌+◌, ◌/◌, ◌%◌, ◌≤◌, ◌<◌, ◌≡◌, refl, List, [], ◌∷◌, ◌++◌, length, get_or, set, take}
 use Rattle.std.specs.Int.{w16, w32, to_be_bytes}
-use Rattle.std.proofs.Common.{ap, ap₂, sym, ◌∙◌, arith, length-append, length-take-le, length-drop, drop-drop}
-use borrow.Rule.Slice.PartMut.{put_mid}
+use Rattle.std.proofs.Common.{ap, ap₂, sym, ◌∙◌, arith, add-one, length-set, length-take-le, take-suc, take_all}
 use Rattle.rules.specs.Rule.Frame.{be, head, over}
 use Rattle.rules.specs.Held.{Put}
+use Rattle.rules.proofs.Laws.Over.{over_nothing, over_byte, over_over}
 
--- ---- bytes, as they are or folded
+-- ---- the loop: of the bytes y, j are written from a place on
 
--- a part of the room that holds y
-pub put_is : (x : List ℕ) {o y u : List ℕ} {at : ℕ} → at + length x ≤ length o → u ≡ y → length y ≡ length x
-    → Put o at y (put_mid at (at + length x - at) o u) (at + length x)
-unfolding over
-put_is x {o} {y} {u} {at} h e l =
-    let k : at + length x - at ≡ length y = omega (arith, l) in
-    let b : put_mid at (at + length x - at) o u ≡ take at o ++ (y ++ drop (at + length y) o)
-    = rw (e, k) (ap (λ (z : List ℕ). take at o ++ (y ++ z)) (drop-drop (length y) at o)) in
+pub record Written (o : List ℕ) (at : ℕ) (y u : List ℕ) (j : ℕ) : Type 0 where
+  pub some : j ≤ length y
+  pub same : length u ≡ length o
+  pub bytes : u ≡ over o at (take j y)
+
+pub written_none : (o : List ℕ) (at : ℕ) (y : List ℕ) → Written o at y o 0
+written_none o at y = record { some = omega arith; same = refl; bytes = sym (over_nothing o at) }
+
+pub written_more : {o : List ℕ} {at : ℕ} {y u : List ℕ} {j v : ℕ} → at + length y ≤ length o → j < length y
+    → Written o at y u j → v ≡ get_or y j 0 → Written o at y (set u (at + j) v) (j + 1)
+written_more {o} {at} {y} {u} {j} {v} h l w e =
+    let some = w.some in
+    let n : length (take j y) ≡ j = length-take-le j y (omega arith) in
+    let k = w.same in
+    let s : take j y ++ (v ∷ []) ≡ take (j + 1) y =
+    ap (λ (z : ℕ). take j y ++ (z ∷ [])) e ∙ sym (ap (λ (i : ℕ). take i y) (add-one j) ∙ take-suc y j 0 (omega arith)) in
     record {
-      next = ap (λ (n : ℕ). at + n) (sym l);
-      bytes = b;
-      same =
-          ap length b
-          ∙ omega (
-            arith,
-            l,
-            length-append (take at o) (y ++ drop (at + length y) o),
-            length-append y (drop (at + length y) o),
-            length-take-le at o (omega arith),
-            length-drop (at + length y) o,
-          );
+      some = omega arith;
+      same = length-set u (at + j) v ∙ k;
+      bytes =
+          over_byte u (at + j) v (omega arith)
+          ∙ ap₂ (λ (z : List ℕ) (i : ℕ). over z (at + i) (v ∷ [])) w.bytes (sym n)
+          ∙ over_over o at (take j y) (v ∷ []) (omega arith) ∙ ap (over o at) s;
     }
+
+pub written_all : {o : List ℕ} {at : ℕ} {y u : List ℕ} {j : ℕ} → Written o at y u j → length y ≤ j → Put o at y u (at + j)
+written_all {o} {at} {y} {u} {j} w h =
+    let s = w.some in
+    let e : j ≡ length y = omega arith in
+    record { next = ap (λ (i : ℕ). at + i) e; bytes = w.bytes ∙ ap (over o at) (take_all j y (omega arith)); same = w.same }
 
 -- ---- numbers
 

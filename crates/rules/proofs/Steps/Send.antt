@@ -42,6 +42,10 @@ send_one name {o} {o₁} {o₂} {o₃} {o₄} {h} {lead} {rest} {at} {a} {b} {d}
     sent_one (omega arith)
     (subst (λ (x : List ℕ). Wrote o at (x ++ (lead ++ (folded name ++ rest))) o₄ r) (eh ∙ ap (λ (k : ℕ). head p i t k) (sym n)) v)
 
+-- a payload with an empty part
+pub name_last : (lead name : List ℕ) → lead ++ (folded name ++ []) ≡ lead ++ folded name
+name_last lead name = ap (λ (x : List ℕ). lead ++ x) (append-nil (folded name))
+
 pub raw_alone : (x : List ℕ) → x ++ (folded [] ++ []) ≡ x
 raw_alone x = ap (λ (y : List ℕ). x ++ (y ++ [])) folded_nil ∙ append-nil x
 

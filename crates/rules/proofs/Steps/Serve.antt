@@ -3,7 +3,7 @@ use Rattle.std.specs.Prelude.{ℕ, ◌+◌, ◌-◌, ◌≤◌, ◌<◌, ◌≡�
 use Rattle.std.proofs.Math.Path.{sym}
 use Rattle.std.proofs.Common.{ap, subst, ◌∙◌, arith, eq-eqb, ne_eqb}
 use mathlib.Core.List.{List}
-use Rattle.std.proofs.lemmas.Bool.{not-true, not-false}
+use Rattle.std.proofs.lemmas.Bool.{eqb-false, not-true, not-false}
 use Rattle.fields.specs.Table.{view, tenant, placed, tab_of, process_of}
 use Rattle.fields.specs.Laws.Tab.{tab_of_lem}
 use Rattle.fields.specs.declared.place.Place.{Place}
@@ -14,7 +14,7 @@ use Rattle.rules.specs.Rule.Seat.{open_rule, pass_rule, key_rule, seat_rule}
 use Rattle.rules.specs.Rule.Tab.{display_rule, socket_rule, url_rule, store_rule, retrieve_rule, tab_rule, result_rule}
 use Rattle.rules.specs.Rule.Tab.{document_rule}
 use Rattle.rules.specs.Rule.Step.{at_tab, event_rule}
-use Rattle.rules.specs.Held.{Replied, Decided, Able, ReadyTab, PartIn, StoreIn, TabIn}
+use Rattle.rules.specs.Held.{Replied, Decided, Able, Ready, ReadyTab, PartIn, StoreIn, TabIn}
 use Rattle.rules.proofs.Laws.Frame.{length_part}
 use Rattle.rules.proofs.Steps.Decide.{decided_refused, decided_replied}
 use Rattle.rules.specs.declared.verdict.Done.{Done}
@@ -102,6 +102,14 @@ module _ {t o t' o' : List ℕ} {s : ℕ} {g : Result Done Refusal} (b e : List 
   tab_retrieve p h f w = rw h (subst (λ (y : List ℕ). Replied t s (retrieve_rule (desk_at t s) k y) o t' o' g) f w)
 
 -- ---- an event
+
+pub seat_there : {t o : List ℕ} {r : Bool} (s : ℕ) → Able t o → r ≡ not (eqb (view t (tenant s)) 0) → r ≡ true → Ready t o s
+seat_there {t} s w e h =
+    record {
+      sound = w.sound;
+      roomy = w.roomy;
+      is_let = eqb-false (view t (tenant s)) 0 (not-true (eqb (view t (tenant s)) 0) (sym e ∙ h));
+    }
 
 pub tab_there : {t o : List ℕ} {s k : ℕ} {place : Option Place} (i : ℕ) → Able t o → place ≡ tab_of (view t) i → place ≡ Some (placed s k)
     → ReadyTab t o s k

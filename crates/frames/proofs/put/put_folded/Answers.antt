@@ -1,14 +1,13 @@
--- The part of the room holds the bytes, folded. Assumes nothing.
-use Rattle.std.proofs.Common.{sym, ap, map, ◌∙◌}
+-- Each byte is folded. Assumes nothing.
+use Rattle.std.proofs.Common.{rules, sym, ◌∙◌, ◌≡◌, ℕ, List, subst}
+use borrow.Author.Tests.{tests}
 use Rattle.std.specs.Char.{to_ascii_lowercase}
-use Rattle.terms.specs.Laws.Fold.{length_folded}
-use Rattle.terms.specs.Steps.Fold.{folded_map}
-use Rattle.rules.proofs.Steps.Put.{put_is}
+use Rattle.terms.specs.Names.{lower}
+use Rattle.terms.specs.Steps.Fold.{lowered, folded_map}
+use Rattle.rules.specs.Inner.{Put}
 use Rattle.frames.proofs.put.put_folded.Goals as goal
 
 pub returns : goal.returns
 returns c =
-    put_is c.args.x.now c.requires
-    (c.make_ascii_lowercase.ensures.after ∙ ap (map to_ascii_lowercase) c.copy_from_slice.ensures.after
-    ∙ sym (folded_map c.args.x.now))
-    (length_folded c.args.x.now)
+    subst (λ (y : List ℕ). Put c.args.out.now c.args.at y c.put_made.new.out c.put_made.result) (sym (folded_map c.args.x.now))
+    (c.put_made.ensures to_ascii_lowercase (λ b r h. let e : r ≡ lower b = search (rules, tests) in e ∙ lowered b))

@@ -1,5 +1,6 @@
 -- The loop keeps: so many events are counted, and the others that are wanted are sought in what stands after those. Assumes nothing.
-use Rattle.std.proofs.Common.{true≢false, not, sym, ap, ◌∙◌}
+use Rattle.std.proofs.Common.{true≢false, arith, sym, ◌∙◌}
+use Rattle.std.proofs.lemmas.Bool.Decides.{nat_tests}
 use Rattle.logs.specs.Laws.Ready.{cut_large, cut_left}
 use Rattle.logs.specs.Laws.Count.{counted_more, counted_cut, counted_all}
 use Rattle.logs.proofs.frame.count_ready.Goals as goal
@@ -18,7 +19,7 @@ returns-in-Cut c =
     (λ off. elim c.if-ended.branch [ then-ended w ↦ absurd (true≢false (sym w.if-ended.true ∙ off)) | else-ended w ↦ w.from-is ∙ off ])
     (λ on.
     elim c.if-ended.branch [
-      | then-ended w ↦ w.from-is ∙ ap not w.is_empty.ensures
+      | then-ended w ↦ w.from-is ∙ grind (arith, nat_tests)
       | else-ended w ↦ absurd (true≢false (sym on ∙ w.if-ended.false))
     ]))
 
